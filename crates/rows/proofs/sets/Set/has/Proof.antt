@@ -1,0 +1,29 @@
+-- `Set::has` meets its contract. A row below 64 is a bit of the low word and one from 64 to 127 a bit of the high word, and both are bits of the number that the words make.
+-- That number is below 2 ^ 128, so the set has no row from 128 on. Assumes nothing.
+use mathlib.Core.Path.{sym}
+use borrow.Author.Needs.{needs}
+use Rattle.rows.specs.Sets.{bit}
+use Rattle.rows.specs.SetLaws.{has-low, has-high, has-above}
+use Rattle.rows.proofs.sets.Set.has.Statement.{statement}
+use Rattle.rows.proofs.sets.Set.has.Tie as tie
+
+shr-result : tie.Need-shr-result
+shr-result c = search needs
+
+shr-result-2 : tie.Need-shr-result-2
+shr-result-2 c = search needs
+
+returns : tie.Need-returns
+unfolding bit
+returns c = sym (has-low (c .before .before .args .self) (c .before .before .args .row) (c .before .if1 .taken))
+
+returns-2 : tie.Need-returns-2
+unfolding bit
+returns-2 c =
+    sym (has-high (c .before .before .before .args .self) (c .before .before .before .args .row) (search needs) (c .before .before .if1 .left))
+
+returns-3 : tie.Need-returns-3
+returns-3 c = sym (has-above (c .before .before .args .self) (c .before .before .args .row) (search needs) (c .if2 .left))
+
+pub has-spec : {M : Type 1} → statement M
+has-spec = tie.close (tie.spec shr-result shr-result-2 returns returns-2 returns-3)

@@ -1,0 +1,70 @@
+-- The scan's invariant: the first fault from the row at hand on is the first fault of all.
+-- A fault ends it there, a row in range takes it one row on. Assumes nothing.
+use Prim.Native.Nat.{_≤_, _-_}
+use mathlib.Core.Path.{_≡_, refl, sym, _∙_}
+use native.Mathlib.Omega.{arith}
+use native.Mathlib.Nat.{sub-zero}
+use borrow.Author.Needs.{needs}
+use Rattle.rows.specs.Sums.{first}
+use Rattle.rows.specs.SumLaws.{first-taken, first-next, first-end}
+use Rattle.rows.specs.Table.{faulty, firstFault}
+use Rattle.rows.specs.TableLaws.{read-fault, read-fine}
+use Rattle.rows.proofs.table.first_fault.Statement.{statement}
+use Rattle.rows.proofs.table.first_fault.Tie as tie
+
+abbrev Inv-loop : tie.InvT-loop
+Inv-loop words n row₀ row = first (faulty words) (n - row) row ≡ first (faulty words) n 0
+
+abbrev μ-loop : tie.MeasureT-loop
+μ-loop words n row₀ row = n - row
+
+loop-holds : tie.Need-loop-holds Inv-loop μ-loop
+loop-holds c = rw sub-zero refl
+
+read-row-requires : tie.Need-read-row-requires Inv-loop μ-loop
+read-row-requires c κs = search needs
+
+enum-told : tie.Need-enum-told Inv-loop μ-loop
+enum-told c = search needs
+
+enum-told-2 : tie.Need-enum-told-2 Inv-loop μ-loop
+enum-told-2 c = search needs
+
+returns : tie.Need-returns Inv-loop μ-loop
+unfolding firstFault
+returns c =
+    let l = c .before .before .before .before in
+    let fault = read-fault _ _ (sym (c .before .before .read-row .ensures) ∙ c .enum-told2 .given .1) in
+    sym (first-taken _ _ _ (c .before .before .before .loop-test .taken) fault) ∙ l .loop .inv
+
+add-row : tie.Need-add-row Inv-loop μ-loop
+add-row c = search needs
+
+loop-less : tie.Need-loop-less Inv-loop μ-loop
+loop-less c = search needs
+
+loop-again : tie.Need-loop-again Inv-loop μ-loop
+loop-again c =
+    let l = c .before .before .before .before in
+    let fine = read-fine _ _ _ (sym (c .before .before .read-row .ensures) ∙ c .enum-told .given .1) in
+    sym (first-next _ _ _ (c .before .before .before .loop-test .taken) (fine .fair)) ∙ l .loop .inv
+
+returns-2 : tie.Need-returns-2 Inv-loop μ-loop
+unfolding firstFault
+returns-2 c = sym (first-end _ _ _ (c .loop-test .left)) ∙ c .before .loop .inv
+
+pub first-fault-spec : {M : Type 1} → statement M
+first-fault-spec =
+    tie.close
+    (tie.spec
+    Inv-loop
+    μ-loop
+    loop-holds
+    read-row-requires
+    enum-told
+    enum-told-2
+    returns
+    add-row
+    loop-less
+    loop-again
+    returns-2)

@@ -1,0 +1,9 @@
+pub mod Numbers
+pub mod Sums
+pub mod Sets
+pub mod Judge
+pub mod Table
+pub mod BoolLaws
+pub mod SumLaws
+pub mod SetLaws
+pub mod TableLaws

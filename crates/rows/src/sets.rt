@@ -1,0 +1,100 @@
+// A set of rows is a mask of two words, row 0 the lowest bit of the first.
+ghost use mathlib.Core.Path.{_≡_};
+ghost use Rattle.rows.specs.Sets.{has, withRow, withoutRow, size, within, below};
+
+pub struct Set {
+    pub low: u64,
+    pub high: u64,
+}
+
+impl Set {
+    // The rows 0 to n - 1.
+    pub fn below(n: usize) -> Self
+        ensures { λ r. ⌜ r ≡ below n ⌝ }
+    {
+        if n < 64 {
+            Self {
+                low: (1u64 << n) - 1,
+                high: 0,
+            }
+        } else if n < 128 {
+            Self {
+                low: 0xffff_ffff_ffff_ffff,
+                high: (1u64 << (n - 64)) - 1,
+            }
+        } else {
+            Self {
+                low: 0xffff_ffff_ffff_ffff,
+                high: 0xffff_ffff_ffff_ffff,
+            }
+        }
+    }
+
+    pub fn has(self, row: usize) -> bool
+        ensures { λ r. ⌜ r ≡ has self row ⌝ }
+    {
+        if row < 64 {
+            (self.low >> row) % 2 == 1
+        } else if row < 128 {
+            (self.high >> (row - 64)) % 2 == 1
+        } else {
+            false
+        }
+    }
+
+    pub fn with(self, row: usize) -> Self
+        ensures { λ r. ⌜ r ≡ withRow self row ⌝ }
+    {
+        if row < 64 {
+            Self {
+                low: self.low | (1u64 << row),
+                high: self.high,
+            }
+        } else if row < 128 {
+            Self {
+                low: self.low,
+                high: self.high | (1u64 << (row - 64)),
+            }
+        } else {
+            self
+        }
+    }
+
+    pub fn without(self, row: usize) -> Self
+        ensures { λ r. ⌜ r ≡ withoutRow self row ⌝ }
+    {
+        if !self.has(row) {
+            self
+        } else if row < 64 {
+            Self {
+                low: self.low - (1u64 << row),
+                high: self.high,
+            }
+        } else {
+            Self {
+                low: self.low,
+                high: self.high - (1u64 << (row - 64)),
+            }
+        }
+    }
+
+    // How many rows: the number of ones.
+    pub fn size(self) -> u32
+        ensures { λ r. ⌜ r ≡ size self ⌝ }
+    {
+        u64::count_ones(self.low) + u64::count_ones(self.high)
+    }
+
+    // Whether every row of the set is below n.
+    pub fn within(self, n: usize) -> bool
+        ensures { λ r. ⌜ r ≡ within self n ⌝ }
+    {
+        if n < 64 {
+            self.high == 0 && self.low < (1u64 << n)
+        } else if n < 128 {
+            self.high < (1u64 << (n - 64))
+        } else {
+            true
+        }
+    }
+}
