@@ -8,7 +8,7 @@ use mathlib.Core.List.{List, [], _∷_, _++_}
 use native.Mathlib.Omega.{arith}
 use lib.Dec.{leb, eqb}
 use lib.ListN.{length, getD, List·getD-eq-default}
-use borrow.Author.Tests.{leb-true, leb-false, le-leb, lt-leb, eqb-true, not-true, not-false}
+use borrow.Author.Tests.{leb-true, leb-false, le-leb, lt-leb, eqb-true, eq-eqb, ne-eqb, not-false}
 use Rattle.rows.specs.BoolLaws.{either, not-both, and-in, and-left, and-right}
 use Rattle.rows.specs.Sums.{first}
 use Rattle.rows.specs.SumLaws.{First, first-is}
@@ -118,11 +118,10 @@ unfolding tableFault
 fault-none words m e f h = rw (e, f, le-leb (length words / 3) (lowestFault words) h) refl
 
 -- what follows the checks of a table: the work where they pass, else their refusal
-abbrev pub after : {A : Type 0} → Checked → (ℕ → ℕ → A) → A → A
+abbrev after : {A : Type 0} → Checked → (ℕ → ℕ → A) → A → A
 after f refuse work = let refusal = refuse (f .number) (f .row) in cond (eqb (f .number) done) work refusal
 
--- the checks of a table before other checks: one answer of `check_table` serves
-pub judge-table : {A : Type 0} (words : List ℕ) (m : ℕ) (others : List Check) (refuse : ℕ → ℕ → A) (work : A)
+judge-table : {A : Type 0} (words : List ℕ) (m : ℕ) (others : List Check) (refuse : ℕ → ℕ → A) (work : A)
     → judge (tableChecks words m ++ others) refuse work ≡ after (tableFault words m) refuse (judge others refuse work)
 unfolding tableFault
 judge-table words m others refuse work =
@@ -138,6 +137,15 @@ judge-table words m others refuse work =
     go true true false = refl
     go true false c = refl
     go false b c = refl
+
+-- the checks of a table before other checks: what `check_table` answers serves for the whole list
+module _ {A : Type 0} (words : List ℕ) (m : ℕ) (others : List Check) (refuse : ℕ → ℕ → A) (work : A) where
+  pub judge-refused : (tableFault words m .number ≡ done → ⊥)
+      → judge (tableChecks words m ++ others) refuse work ≡ refuse (tableFault words m .number) (tableFault words m .row)
+  judge-refused h = judge-table words m others refuse work ∙ rw (ne-eqb (tableFault words m .number) done h) refl
+
+  pub judge-passed : tableFault words m .number ≡ done → judge (tableChecks words m ++ others) refuse work ≡ judge others refuse work
+  judge-passed h = judge-table words m others refuse work ∙ rw (eq-eqb (tableFault words m .number) done h) refl
 
 -- a table and core count that passed
 pub record Valid (words : List ℕ) (m : ℕ) : Type 0 where
@@ -184,3 +192,9 @@ passed-valid words m h =
     (either (someCores m)))
     (λ (e : wellSized words ≡ false). let z = ap (λ (r : Checked). r .number) (fault-length words m e) in absurd (omega arith))
     (either (wellSized words))
+
+-- ---- any words
+
+pub row-count-most : (words : List ℕ) → rowCount words ≤ 96
+unfolding rowCount
+row-count-most words = omega arith
