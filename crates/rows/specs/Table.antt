@@ -47,12 +47,18 @@ unfoldable pub firstFault : List ℕ → ℕ → ℕ
 firstFault words n = first (faulty words) n 0
 
 -- the first checks of every function over a table
+abbrev pub lengthCheck : List ℕ → Check
+lengthCheck words = check (eqb (length words % 3) 0 && leb (length words / 3) 96) table-length
+
+abbrev pub coresCheck : ℕ → Check
+coresCheck m = check (leb 1 m && leb m 32) cores
+
+abbrev pub rowsCheck : List ℕ → Check
+rowsCheck words =
+    checkAt (leb (length words / 3) (firstFault words (length words / 3))) row-range (firstFault words (length words / 3))
+
 abbrev pub tableChecks : List ℕ → ℕ → List Check
-tableChecks words m =
-    check (eqb (length words % 3) 0 && leb (length words / 3) 96) table-length
-    ∷ check (leb 1 m && leb m 32) cores
-    ∷ checkAt (leb (length words / 3) (firstFault words (length words / 3))) row-range (firstFault words (length words / 3))
-    ∷ []
+tableChecks words m = lengthCheck words ∷ coresCheck m ∷ rowsCheck words ∷ []
 
 unfoldable pub tableFault : List ℕ → ℕ → Checked
 tableFault words m =

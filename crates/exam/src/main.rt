@@ -1,0 +1,40 @@
+// Examines the public functions: cases on standard input, answers on standard output, as docs/EXAM.md says.
+// It takes a case apart, calls the function, and writes the parts of its answer.
+ghost use Prim.Native.Nat.{_≤_};
+ghost use lib.ListN.{length};
+
+mod input;
+mod output;
+mod table;
+
+// One case, of the kind that its first byte says. False where the input ends, is cut short, or has another kind.
+fn one_case(bytes: &mut [u8], words: &mut [u32]) -> bool
+    requires { ⌜ (4096 ≤ length (now bytes)) × (512 ≤ length (now words)) ⌝ }
+{
+    let input::Got::Number(kind) = input::number(bytes, 1) else {
+        return false;
+    };
+    if kind == 1 {
+        return table::test(bytes, words);
+    }
+    false
+}
+
+// Cases until one is the last.
+fn all_cases(bytes: &mut [u8], words: &mut [u32])
+    requires { ⌜ (4096 ≤ length (now bytes)) × (512 ≤ length (now words)) ⌝ }
+{
+    let mut left: u64 = 0xffff_ffff_ffff_ffff;
+    while 0 < left {
+        if !one_case(bytes, words) {
+            break;
+        }
+        left -= 1;
+    }
+}
+
+fn main() {
+    let mut bytes = [0u8; 4096];
+    let mut words = [0u32; 512];
+    all_cases(&mut bytes, &mut words);
+}

@@ -1,0 +1,16 @@
+// Parts of an answer, each eight bytes, high byte first.
+pub fn part(value: u64) {
+    let mut bytes = [0u8; 8];
+    let mut rest = value;
+    let mut i: usize = 8;
+    while 0 < i {
+        i -= 1;
+        bytes[i] = (rest % 256) as u8;
+        rest = rest / 256;
+    }
+    io::write_all(1, &bytes);
+}
+
+pub fn flag(value: bool) {
+    part(if value { 1 } else { 0 });
+}

@@ -1,0 +1,14 @@
+pub mod Search
+pub mod Demand
+pub mod State
+pub mod Answers
+pub mod FreeLaws
+pub mod StrandLaws
+pub mod OrderLaws
+pub mod SearchLaws
+pub mod DemandLaws
+pub mod TestOfLaws
+pub mod StateLaws
+pub mod LevelLaws
+pub mod CallLaws
+pub mod StepLaws

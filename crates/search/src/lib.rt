@@ -1,0 +1,12 @@
+// Audsley's search, in one call and in quota steps.
+mod call;
+mod scan;
+mod state;
+mod steps;
+
+pub use call::Found;
+pub use call::search;
+pub use state::State;
+pub use state::fresh;
+pub use steps::Stepped;
+pub use steps::step;

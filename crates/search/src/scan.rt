@@ -1,0 +1,49 @@
+// One level: unplaced rows tried in table sequence.
+ghost use mathlib.Core.Path.{_≡_};
+ghost use Prim.Native.Nat.{suc, _-_, _≤_, min};
+ghost use Rattle.rows.specs.Sums.{count, first};
+ghost use Rattle.rows.specs.Sets.{has};
+ghost use Rattle.search.specs.Answers.{testOf, passing};
+use rows::Set;
+
+// The first row that passed, n where none did, and the tests made.
+pub(crate) struct Scanned {
+    pub row: usize,
+    pub tests: u64,
+}
+
+// The first of the rows from the cursor on that is left; n, or the cursor where that is more, where none is.
+pub(crate) fn next_row(left: Set, cursor: usize, n: usize) -> usize
+    ensures { λ r. ⌜ r ≡ first (has left) (n - cursor) cursor ⌝ }
+{
+    let mut row = cursor;
+    while row < n {
+        if left.has(row) {
+            break;
+        }
+        row += 1;
+    }
+    row
+}
+
+// Tests the rows left, in table sequence, each with all others above it, up to the first that passes.
+pub(crate) fn scan(words: &[u32], m: u32, left: Set, n: usize) -> Scanned
+    requires { ⌜ (n ≤ 96) × (1 ≤ m) ⌝ }
+    ensures { λ r. ⌜ r .row ≡ first (passing (testOf (now (words .entry)) m) (has left)) n 0 ⌝ }
+    ensures { λ r. ⌜ r .tests ≡ count (min (suc (r .row)) n) (has left) ⌝ }
+{
+    let mut row = n;
+    let mut tests: u64 = 0;
+    let mut i: usize = 0;
+    while i < n {
+        if left.has(i) {
+            tests += 1;
+            if test::passes(words, m, m - 1, left.without(i), i) {
+                row = i;
+                break;
+            }
+        }
+        i += 1;
+    }
+    Scanned { row, tests }
+}

@@ -1,0 +1,124 @@
+// The search in quota steps.
+ghost use mathlib.Core.Path.{_≡_};
+ghost use mathlib.Core.Bool.{true};
+ghost use Prim.Native.Nat.{_≤_, _<_};
+ghost use Rattle.rows.specs.Sets.{none, setOf};
+ghost use Rattle.rows.specs.Table.{rowCount};
+ghost use Rattle.search.specs.Search.{rowsBelow, free};
+ghost use Rattle.search.specs.State.{placedRows, sound};
+ghost use Rattle.search.specs.Answers.{steppedOf, StepDemanded, workOf, probedOf};
+use crate::scan::next_row;
+use crate::state::State;
+use crate::state::left_of;
+use crate::state::place;
+use rows::Set;
+use rows::numbers;
+
+// A step's answer: the number, with 3 the lowest row at fault, with 4 the blocked group, the tests made in this call, and the new state.
+pub struct Stepped {
+    pub number: u32,
+    pub row: usize,
+    pub group: Set,
+    pub tests: u64,
+    pub state: State,
+}
+
+// A state and the rows that it leaves unplaced.
+struct Stand {
+    state: State,
+    left: Set,
+}
+
+// One test, of row k with all others that are left above it.
+fn probe(words: &[u32], m: u32, n: usize, stand: Stand, k: usize) -> Stand
+    requires { ⌜ (n ≤ 96) × (k < n) × (stand .state .placed < n) × (1 ≤ m) ⌝ }
+    ensures { λ r. ⌜ r ≡ probedOf (now (words .entry)) m n (stand .state) (stand .left) k ⌝ }
+{
+    let state = stand.state;
+    let left = stand.left;
+    let above = left.without(k);
+    if test::passes(words, m, m - 1, above, k) {
+        let next = place(state, n, k);
+        return Stand {
+            state: next,
+            left: above,
+        };
+    }
+    let mut next = state;
+    next.cursor = k + 1;
+    Stand { state: next, left }
+}
+
+// Tests until the search is finished or the quota is spent.
+fn run(words: &[u32], m: u32, n: usize, state: State, left: Set, quota: u64) -> Stepped
+    requires { ⌜ (n ≡ rowCount (now words)) × (1 ≤ m) × (sound n state ≡ true) ⌝ }
+    requires { ⌜ left ≡ setOf (free (rowsBelow n) (placedRows n state)) ⌝ }
+    ensures { λ r. ⌜ r ≡ workOf (now (words .entry)) m state quota ⌝ }
+{
+    let mut stand = Stand { state, left };
+    let mut tests: u64 = 0;
+    let mut k = next_row(left, state.cursor, n);
+    while k < n && tests < quota {
+        stand = probe(words, m, n, stand, k);
+        tests += 1;
+        let now = stand.state;
+        let rest = stand.left;
+        k = next_row(rest, now.cursor, n);
+    }
+    let end = stand.state;
+    let group = stand.left;
+    if k < n {
+        return Stepped {
+            number: numbers::UNFINISHED,
+            row: 0,
+            group: Set { low: 0, high: 0 },
+            tests,
+            state: end,
+        };
+    }
+    if end.placed < n {
+        return Stepped {
+            number: numbers::BLOCKED,
+            row: 0,
+            group,
+            tests,
+            state: end,
+        };
+    }
+    Stepped {
+        number: numbers::DONE,
+        row: 0,
+        group: Set { low: 0, high: 0 },
+        tests,
+        state: end,
+    }
+}
+
+fn refused(number: u32, row: usize, state: State) -> Stepped
+    ensures { λ r. ⌜ r ≡ record { number = number; row = row; group = none; tests = 0; state = state } ⌝ }
+{
+    Stepped {
+        number,
+        row,
+        group: Set { low: 0, high: 0 },
+        tests: 0,
+        state,
+    }
+}
+
+// One step: 1, 2, 3, 7, then 0, 4 or 15 with the new state and the tests made in this call.
+pub fn step(words: &[u32], m: u32, state: State, quota: u64) -> Stepped
+    ensures { λ r. ⌜ r ≡ steppedOf (now (words .entry)) m state quota ⌝ }
+    ensures { λ r. ⌜ StepDemanded (now (words .entry)) m state quota r ⌝ }
+{
+    let checked = rows::check_table(words, m);
+    if checked.number != 0 {
+        return refused(checked.number, checked.row, state);
+    }
+    let n = rows::row_count(words);
+    let left = left_of(state, n);
+    if !left.sound {
+        return refused(numbers::UNSOUND, 0, state);
+    }
+    run(words, m, n, state, left.rows, quota)
+}
