@@ -76,3 +76,30 @@ pub fn words(bytes: &mut [u8], words: &mut [u32]) -> usize
     }
     n
 }
+
+// The next list of bytes, and how many they are; 4097 where the input ends or the list is longer than 4096.
+pub fn list(bytes: &mut [u8], out: &mut [u8]) -> usize
+    requires { ⌜ (2 ≤ length (now bytes)) × (4096 ≤ length (now out)) ⌝ }
+{
+    let n = count(bytes, 4096);
+    if 4096 < n {
+        return 4097;
+    }
+    if !fill(out, n) {
+        return 4097;
+    }
+    n
+}
+
+// The 96 bytes from `at` on.
+pub fn order_at(bytes: &[u8], at: usize) -> [u8; 96]
+    requires { ⌜ at + 96 ≤ length (now bytes) ⌝ }
+{
+    let mut order = [0u8; 96];
+    let mut i: usize = 0;
+    while i < 96 {
+        order[i] = bytes[at + i];
+        i += 1;
+    }
+    order
+}

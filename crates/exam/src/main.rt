@@ -8,8 +8,8 @@ mod output;
 mod table;
 
 // One case, of the kind that its first byte says. False where the input ends, is cut short, or has another kind.
-fn one_case(bytes: &mut [u8], words: &mut [u32]) -> bool
-    requires { ⌜ (4096 ≤ length (now bytes)) × (512 ≤ length (now words)) ⌝ }
+fn one_case(bytes: &mut [u8], words: &mut [u32], out: &mut [u8]) -> bool
+    requires { ⌜ (4096 ≤ length (now bytes)) × (512 ≤ length (now words)) × (4096 ≤ length (now out)) ⌝ }
 {
     let input::Got::Number(kind) = input::number(bytes, 1) else {
         return false;
@@ -17,16 +17,22 @@ fn one_case(bytes: &mut [u8], words: &mut [u32]) -> bool
     if kind == 1 {
         return table::test(bytes, words);
     }
+    if kind == 2 {
+        return table::search(bytes, words, out);
+    }
+    if kind == 3 {
+        return table::step(bytes, words);
+    }
     false
 }
 
 // Cases until one is the last.
-fn all_cases(bytes: &mut [u8], words: &mut [u32])
-    requires { ⌜ (4096 ≤ length (now bytes)) × (512 ≤ length (now words)) ⌝ }
+fn all_cases(bytes: &mut [u8], words: &mut [u32], out: &mut [u8])
+    requires { ⌜ (4096 ≤ length (now bytes)) × (512 ≤ length (now words)) × (4096 ≤ length (now out)) ⌝ }
 {
     let mut left: u64 = 0xffff_ffff_ffff_ffff;
     while 0 < left {
-        if !one_case(bytes, words) {
+        if !one_case(bytes, words, out) {
             break;
         }
         left -= 1;
@@ -36,5 +42,6 @@ fn all_cases(bytes: &mut [u8], words: &mut [u32])
 fn main() {
     let mut bytes = [0u8; 4096];
     let mut words = [0u32; 512];
-    all_cases(&mut bytes, &mut words);
+    let mut out = [0u8; 4096];
+    all_cases(&mut bytes, &mut words, &mut out);
 }

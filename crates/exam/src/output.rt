@@ -1,4 +1,6 @@
 // Parts of an answer, each eight bytes, high byte first.
+use rows::Set;
+
 pub fn part(value: u64) {
     let mut bytes = [0u8; 8];
     let mut rest = value;
@@ -13,4 +15,13 @@ pub fn part(value: u64) {
 
 pub fn flag(value: bool) {
     part(if value { 1 } else { 0 });
+}
+
+pub fn set(value: Set) {
+    part(value.low);
+    part(value.high);
+}
+
+pub fn order(order: [u8; 96]) {
+    io::write_all(1, &order);
 }

@@ -4,6 +4,7 @@ ghost use lib.ListN.{length};
 use crate::input;
 use crate::output;
 use rows::Set;
+use search::State;
 
 fn word(bytes: &[u8], at: usize) -> u32
     requires { ⌜ at + 4 ≤ length (now bytes) ⌝ }
@@ -54,5 +55,73 @@ pub fn test(bytes: &mut [u8], words: &mut [u32]) -> bool
         return false;
     }
     answer_test(&words[..n], &*bytes);
+    true
+}
+
+fn answer_search(words: &[u32], m: u32, out: &mut [u8]) {
+    let r = search::search(words, m, out);
+    output::part(r.number as u64);
+    output::part(r.row as u64);
+    let group = r.group;
+    output::set(group);
+    output::part(r.tests);
+    io::write_all(1, &*out);
+}
+
+// Kind 2: m and the output.
+pub fn search(bytes: &mut [u8], words: &mut [u32], out: &mut [u8]) -> bool
+    requires { ⌜ (4096 ≤ length (now bytes)) × (512 ≤ length (now words)) × (4096 ≤ length (now out)) ⌝ }
+{
+    let n = read(bytes, words, 4);
+    if 512 < n {
+        return false;
+    }
+    let m = word(&*bytes, 0);
+    let size = input::list(bytes, out);
+    if 4096 < size {
+        return false;
+    }
+    answer_search(&words[..n], m, &mut out[..size]);
+    true
+}
+
+// Kind 3: m, the state and the quota.
+fn answer_step(words: &[u32], bytes: &[u8])
+    requires { ⌜ 124 ≤ length (now bytes) ⌝ }
+{
+    let order = input::order_at(bytes, 4);
+    let placed = input::number_at(bytes, 100, 8);
+    let cursor = input::number_at(bytes, 108, 8);
+    let state = State {
+        order,
+        placed: placed as usize,
+        cursor: cursor as usize,
+    };
+    let r = search::step(
+        words,
+        word(bytes, 0),
+        state,
+        input::number_at(bytes, 116, 8),
+    );
+    output::part(r.number as u64);
+    output::part(r.row as u64);
+    let group = r.group;
+    output::set(group);
+    output::part(r.tests);
+    let next = r.state;
+    let after = next.order;
+    output::order(after);
+    output::part(next.placed as u64);
+    output::part(next.cursor as u64);
+}
+
+pub fn step(bytes: &mut [u8], words: &mut [u32]) -> bool
+    requires { ⌜ (4096 ≤ length (now bytes)) × (512 ≤ length (now words)) ⌝ }
+{
+    let n = read(bytes, words, 124);
+    if 512 < n {
+        return false;
+    }
+    answer_step(&words[..n], &*bytes);
     true
 }

@@ -1,0 +1,54 @@
+//! Command-line options shared by the programs.
+
+use crate::exam::KINDS;
+
+/// `PATH... [--kinds 1,2,3] [--inputs N] [--seed S] [-- ARGUMENT...]`
+#[derive(Clone, Debug, PartialEq, Eq)]
+pub struct Options {
+    pub paths: Vec<String>,
+    pub kinds: Vec<u8>,
+    pub inputs: usize,
+    pub seed: u64,
+    pub program_arguments: Vec<String>,
+}
+
+fn number<T: std::str::FromStr>(name: &str, text: Option<String>) -> Result<T, String> {
+    let text = text.ok_or(format!("{name} needs a number"))?;
+    text.parse().map_err(|_| format!("{name} needs a number, not {text}"))
+}
+
+fn kinds(text: Option<String>) -> Result<Vec<u8>, String> {
+    let text = text.ok_or("--kinds needs a list")?;
+    let kind = |text: &str| match text.parse() {
+        Ok(kind) if KINDS.iter().any(|&(known, _)| known == kind) => Ok(kind),
+        _ => Err(format!("{text} is no kind")),
+    };
+    text.split(',').map(kind).collect()
+}
+
+impl Options {
+    pub fn parse(arguments: impl Iterator<Item = String>, paths: usize) -> Result<Options, String> {
+        let mut arguments = arguments.skip(1);
+        let mut options = Options {
+            paths: Vec::new(),
+            kinds: KINDS.iter().map(|&(kind, _)| kind).collect(),
+            inputs: 1000,
+            seed: 1,
+            program_arguments: Vec::new(),
+        };
+        while let Some(argument) = arguments.next() {
+            match argument.as_str() {
+                "--kinds" => options.kinds = kinds(arguments.next())?,
+                "--inputs" => options.inputs = number("--inputs", arguments.next())?,
+                "--seed" => options.seed = number("--seed", arguments.next())?,
+                "--" => options.program_arguments = arguments.by_ref().collect(),
+                _ => options.paths.push(argument),
+            }
+        }
+        if options.paths.len() == paths {
+            Ok(options)
+        } else {
+            Err(format!("{paths} paths needed, {} given", options.paths.len()))
+        }
+    }
+}
