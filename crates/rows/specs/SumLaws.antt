@@ -78,6 +78,14 @@ sum-scale (suc n) p x = ⊎-elim (λ e. rw e (omega (arith, sum-scale n p x))) (
 pub count-mono : (n : ℕ) (p q : ℕ → Bool) → ((i : ℕ) → p i ≡ true → q i ≡ true) → count n p ≤ count n q
 count-mono n p q s = sum-mono n _ _ (λ i l. on-mono (p i) (q i) (s i) (le-refl 1))
 
+-- a count up to more takes no fewer
+pub count-upto : (a b : ℕ) (p : ℕ → Bool) → a ≤ b → count a p ≤ count b p
+count-upto a zero p h = let e : a ≡ 0 = omega arith in rw e (le-refl 0)
+count-upto a (suc b) p h =
+    ⊎-elim (λ (e : a ≡ suc b). rw e (le-refl (count (suc b) p)))
+    (λ (l : a < suc b). omega (arith, count-upto a b p (le-of-suc-le-suc l)))
+    (eq-or-lt-of-le h)
+
 pub count-le : (n : ℕ) (p : ℕ → Bool) → count n p ≤ n
 count-le zero p = zero-le
 count-le (suc n) p = omega (arith, count-le n p, on-le (p n) 1)

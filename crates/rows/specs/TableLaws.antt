@@ -1,22 +1,20 @@
 -- Laws of tables: what a row that was read is, what a table that passed its checks is, and how the checks of a table stand before others.
 -- Assumes nothing.
-use Prim.Native.Nat.{ℕ, zero, suc, _+_, _*_, _/_, _%_, _≤_, _<_, min}
-use mathlib.Core.Path.{_≡_, refl, sym, ap, _∙_}
+use Prim.Native.Nat.{ℕ, _+_, _*_, _/_, _%_, _≤_, _<_, min}
+use mathlib.Core.Path.{_≡_, refl, ap, _∙_}
 use mathlib.Core.Logic.{⊎-elim}
-use mathlib.Core.Bool.{Bool, true, false, not, _&&_, cond, false≢true}
+use mathlib.Core.Bool.{Bool, true, false, _&&_, cond}
 use mathlib.Core.List.{List, [], _∷_, _++_}
 use native.Mathlib.Omega.{arith}
 use lib.Dec.{leb, eqb}
 use lib.ListN.{length, getD, List·getD-eq-default}
 use borrow.Author.Tests.{leb-true, leb-false, le-leb, lt-leb, eqb-true, eq-eqb, ne-eqb, not-false}
-use Rattle.rows.specs.BoolLaws.{either, not-both, and-in, and-left, and-right}
-use Rattle.rows.specs.Sums.{first}
-use Rattle.rows.specs.SumLaws.{First, first-is}
+use Rattle.rows.specs.BoolLaws.{either, and-left, and-right}
+use Rattle.rows.specs.SumLaws.{first-is}
 use Rattle.rows.specs.Judge.{Check, check, checkAt, judge}
 use Rattle.rows.specs.Numbers.{done, table-length, cores, row-range}
-use Rattle.rows.specs.Table.{inRange, wordsAt, readAt, faulty, rowOf, table, rowCount, firstFault, tableChecks, tableFault}
+use Rattle.rows.specs.Table.{inRange, wordsAt, readAt, faulty, table, rowCount, firstFault, tableChecks, tableFault}
 use Rattle.rows.specs.declared.table.Row.{Row}
-use Rattle.rows.specs.declared.table.RowRead.{RowRead}
 use Rattle.rows.specs.declared.table.RowRead.the-variants.{Fine, Fault}
 use Rattle.rows.specs.declared.table.Checked.{Checked}
 
@@ -116,6 +114,19 @@ pub fault-none : (words : List ℕ) (m : ℕ) → wellSized words ≡ true → s
     → tableFault words m ≡ record { number = done; row = 0 }
 unfolding tableFault
 fault-none words m e f h = rw (e, f, le-leb (length words / 3) (lowestFault words) h) refl
+
+-- the checks of a table answer no number but 0, 1, 2 and 3
+pub fault-most : (words : List ℕ) (m : ℕ) → tableFault words m .number ≤ 3
+unfolding tableFault
+fault-most words m = go (wellSized words) (someCores m) (leb (length words / 3) (lowestFault words))
+  where
+    go : (a b c : Bool) →
+        judge {A = Checked} (check a table-length ∷ check b cores ∷ checkAt c row-range (lowestFault words) ∷ [])
+        (λ number place. record { number = number; row = place }) (record { number = done; row = 0 }) .number ≤ 3
+    go true true true = omega arith
+    go true true false = omega arith
+    go true false c = omega arith
+    go false b c = omega arith
 
 -- what follows the checks of a table: the work where they pass, else their refusal
 abbrev after : {A : Type 0} → Checked → (ℕ → ℕ → A) → A → A

@@ -3,11 +3,11 @@
 use Prim.Native.Nat.{ℕ, _+_, _-_, _≤_}
 use mathlib.Core.Path.{_≡_}
 use mathlib.Core.Logic.{_⊎_}
-use mathlib.Core.Bool.{Bool, true, _&&_, cond}
+use mathlib.Core.Bool.{Bool, _&&_, cond}
 use mathlib.Core.List.{List, [], _∷_, _++_}
 use lib.Dec.{leb, eqb}
 use lib.ListN.{length, take, drop}
-use Rattle.rows.specs.Judge.{Check, check, judge}
+use Rattle.rows.specs.Judge.{check, judge}
 use Rattle.rows.specs.Numbers.{done, blocked, unsound, short-output, unfinished}
 use Rattle.rows.specs.Sets.{has, setOf, without, none, withoutRow}
 use Rattle.rows.specs.Table.{table, rowCount, tableChecks}

@@ -1,63 +1,38 @@
 -- Laws of the search in one call: what the code holds level by level, its answer by the check that decides it, and the demands on the answer.
 -- Assumes nothing.
-use Prim.Native.Nat.{ℕ, suc, _+_, _-_, _/_, _≤_, _<_, min, zero-le}
+use Prim.Native.Nat.{ℕ, suc, _+_, _≤_, _<_, min, zero-le}
 use mathlib.Core.Path.{_≡_, refl, sym, ap, _∙_, fun-ext}
 use mathlib.Core.Logic.{⊎-elim}
-use mathlib.Core.Bool.{Bool, true, false, not, _&&_, _||_, cond, and-true}
+use mathlib.Core.Bool.{true, false, cond}
 use mathlib.Core.List.{List, [], _∷_, _++_}
 use native.Mathlib.Omega.{arith}
 use native.Mathlib.Nat.{ne-of-lt}
-use lib.Dec.{leb, ltb, eqb}
-use lib.ListN.{length, take, drop}
+use lib.Dec.{leb, eqb}
+use lib.ListN.{length, drop}
 use lib.Seq.{take-at}
-use borrow.Author.Tests.{ltb-true, ltb-false, le-ltb, leb-true, leb-false, le-leb, lt-leb, eqb-true, eqb-false, eq-eqb, ne-eqb}
+use borrow.Author.Tests.{ltb-true, leb-true, leb-false, le-leb, lt-leb, eqb-true, eqb-false, eq-eqb, ne-eqb}
 use Rattle.rows.specs.BoolLaws.{either, and-left}
-use Rattle.rows.specs.Judge.{Check, check, checkAt, judge}
-use Rattle.rows.specs.Numbers.{done, table-length, cores, row-range, blocked, short-output}
+use Rattle.rows.specs.Judge.{Check, check}
+use Rattle.rows.specs.Numbers.{done, blocked, short-output}
 use Rattle.rows.specs.Sums.{count, first}
 use Rattle.rows.specs.SumLaws.{first-is}
 use Rattle.rows.specs.Sets.{has, setOf, without, none, below, withoutRow}
-use Rattle.rows.specs.SetLaws.{has-set-of, has-set-of-above, set-ext}
 use Rattle.rows.specs.Table.{rowCount, tableFault}
-use Rattle.rows.specs.TableLaws.{wellSized, someCores, lowestFault, judge-refused, judge-passed, row-count-most}
+use Rattle.rows.specs.TableLaws.{judge-refused, judge-passed, row-count-most, fault-most}
 use Rattle.rows.specs.declared.sets.Set.{Set}
-use Rattle.rows.specs.declared.table.Checked.{Checked}
-use Rattle.search.specs.Search.{rowsBelow, elem, free, Progress, finished}
+use Rattle.search.specs.Search.{rowsBelow, free, Progress, finished}
 use Rattle.search.specs.Demand.{Truth}
-use Rattle.search.specs.State.{orderOf, rowsPlaced, freshState, placedAt}
-use Rattle.search.specs.Answers.{testOf, searchOf, placedOf, passing, numberOf, groupOf, refusal, foundBy, foundOf, writtenOf, Demanded, Searches}
-use Rattle.search.specs.OrderLaws.{Distinct, tally, placing-distinct, distinct-order, placing-passing}
+use Rattle.search.specs.State.{orderOf, freshState, placedAt}
+use Rattle.search.specs.Answers.{testOf, searchOf, placedOf, passing, numberOf, refusal, foundBy, foundOf, writtenOf, Demanded, Searches}
+use Rattle.search.specs.OrderLaws.{Distinct, placing-distinct, distinct-order, placing-passing}
 use Rattle.search.specs.SearchLaws.{search-ends, search-tests}
-use Rattle.search.specs.DemandLaws.{search-truth, rows-count, full-finished}
-use Rattle.search.specs.StateLaws.{fresh-order, order-place, rows-placed}
+use Rattle.search.specs.DemandLaws.{search-truth, rows-count, distinct-most, full-finished}
+use Rattle.search.specs.StateLaws.{fresh-order, order-place, has-unplaced, all-unplaced, less-unplaced}
+use Rattle.search.specs.AnswerLaws.{group-blocked, group-none}
 use Rattle.search.specs.TestOfLaws.{test-antitone}
 use Rattle.search.specs.LevelLaws.{Comes, comes-fresh, comes-level, comes-search, levelled, levelled-placed, levelled-stuck, end-finished}
 use Rattle.search.specs.declared.state.State.{State}
 use Rattle.search.specs.declared.call.Found.{Found}
-
--- ---- the rows left, as a mask
-
--- the mask of the free rows has those rows
-pub has-free : (n : ℕ) (p : List ℕ) → n ≤ 96 → (i : ℕ) → has (setOf (free (rowsBelow n) p)) i ≡ free (rowsBelow n) p i
-unfolding free
-has-free n p h i =
-    ⊎-elim (λ (l : ltb i 128 ≡ true). has-set-of (free (rowsBelow n) p) i (ltb-true i 128 l))
-    (λ (l : ltb i 128 ≡ false).
-    let g : 128 ≤ i = ltb-false i 128 l in
-    has-set-of-above (free (rowsBelow n) p) i g ∙ rw (le-ltb i n (omega arith)) refl)
-    (either (ltb i 128))
-
-and-not-or : (a b c : Bool) → a && not b && not c ≡ a && not (c || b)
-and-not-or true true true = refl
-and-not-or true true false = refl
-and-not-or true false true = refl
-and-not-or true false false = refl
-and-not-or false b c = refl
-
--- the free rows but one are those after it is placed
-pub free-without : (dom : ℕ → Bool) (p : List ℕ) (k i : ℕ) → without (free dom p) k i ≡ free dom (k ∷ p) i
-unfolding free without
-free-without dom p k i = and-not-or (dom i) (elem i p) (eqb i k)
 
 -- ---- level by level
 
@@ -78,13 +53,9 @@ levels-fresh words m n h =
       order = sym (fresh-order n h);
       placed = refl;
       distinct = tt;
-      unplaced = set-ext (rowsBelow n) (free (rowsBelow n) []) (λ i l. rw and-true refl);
+      unplaced = all-unplaced n;
       comes = comes-fresh n (rowsBelow n) (testOf words m);
     }
-
--- distinct rows below n are at most n
-distinct-most : (n : ℕ) (p : List ℕ) → Distinct (rowsBelow n) p → length p ≤ n
-distinct-most n p D = omega (arith, tally (rowsBelow n) n (λ i h. ltb-true i n h) p D, rows-count n)
 
 module _ (words : List ℕ) (m n : ℕ) (s : State) (left : Set) (tests : ℕ) (L : Levels words m n s left tests) where
   -- where the search that has come so far is finished, the code holds the end of the whole search
@@ -109,7 +80,7 @@ module _ (words : List ℕ) (m n : ℕ) (s : State) (left : Set) (tests : ℕ) (
   -- what a scan finds, r, and the tests that it makes, t
   module _ (h : n ≤ 96) (r t : ℕ) (e : r ≡ first (passing (testOf words m) (has left)) n 0) (f : t ≡ count (min (suc r) n) (has left)) where
     rows-left : has left ≡ free (rowsBelow n) (L .rows)
-    rows-left = rw (L .unplaced) (fun-ext (has-free n (L .rows) h))
+    rows-left = rw (L .unplaced) (fun-ext (λ i. has-unplaced n (L .rows) i h))
 
     found : r ≡ first (passing (testOf words m) (free (rowsBelow n) (L .rows))) n 0
     found = rw rows-left at e
@@ -137,7 +108,7 @@ module _ (words : List ℕ) (m n : ℕ) (s : State) (left : Set) (tests : ℕ) (
           order = rw (L .order, L .placed) (order-place n p r (omega (arith, L .placed)));
           placed = omega (arith, L .placed);
           distinct = (and-left (H r) (testOf words m (without H r) r) pass, L .distinct);
-          unplaced = rw rows-left (set-ext (without H r) (free (rowsBelow n) (r ∷ p)) (λ i _. free-without (rowsBelow n) p r i));
+          unplaced = rw (L .unplaced) (less-unplaced n p r);
           comes = rw (levelled-placed n (rowsBelow n) p r l) at scanned;
         }
 
@@ -173,15 +144,6 @@ module _ (words : List ℕ) (m : ℕ) where
       absurd (omega arith))
       (either (eqb (length (placedOf words m)) (rowCount words)))
 
-  group-blocked : numberOf (rowCount words) (searchOf words m .progress) ≡ blocked
-      → groupOf (rowCount words) (searchOf words m .progress) ≡ setOf (free (rowsBelow (rowCount words)) (placedOf words m))
-  unfolding groupOf
-  group-blocked b = rw b refl
-
-  group-done : numberOf (rowCount words) (searchOf words m .progress) ≡ done → groupOf (rowCount words) (searchOf words m .progress) ≡ none
-  unfolding groupOf
-  group-done d = rw d refl
-
 -- ---- the answer by the check that decides it
 
 module _ (words : List ℕ) (m room : ℕ) where
@@ -216,12 +178,12 @@ module _ (words : List ℕ) (m room : ℕ) where
             group = setOf (free (rowsBelow (rowCount words)) (placedOf words m));
             tests = searchOf words m .tests;
           }
-      found-blocked l = let b = number-blocked words m l in found-searched ∙ rw (group-blocked words m b, b) refl
+      found-blocked l = let b = number-blocked words m l in found-searched ∙ rw (group-blocked (rowCount words) (searchOf words m .progress) b, b) refl
 
       -- 0
       pub found-done : length (placedOf words m) ≡ rowCount words
           → foundOf words m room ≡ record { number = done; row = 0; group = none; tests = searchOf words m .tests }
-      found-done e = let d = number-done words m e in found-searched ∙ rw (group-done words m d, d) refl
+      found-done e = let d = number-done words m e in found-searched ∙ rw (group-none (rowCount words) (searchOf words m .progress) (λ e. omega arith), d) refl
 
 -- the output afterwards
 module _ (words : List ℕ) (m : ℕ) (out : List ℕ) where
@@ -234,21 +196,6 @@ module _ (words : List ℕ) (m : ℕ) (out : List ℕ) where
   written-order h = rw (eq-eqb (foundOf words m (length out) .number) done h) refl
 
 -- ---- the demands
-
--- the checks of a table answer no other number than 1, 2 and 3
-fault-low : (words : List ℕ) (m : ℕ) → tableFault words m .number ≤ 3
-unfolding tableFault
-fault-low words m = go (wellSized words) (someCores m) (leb (length words / 3) (lowestFault words))
-  where
-    refuse : ℕ → ℕ → Checked
-    refuse number place = record { number = number; row = place }
-
-    go : (a b c : Bool)
-        → judge (check a table-length ∷ check b cores ∷ checkAt c row-range (lowestFault words) ∷ []) refuse (record { number = done; row = 0 }) .number ≤ 3
-    go true true true = omega arith
-    go true true false = omega arith
-    go true false c = omega arith
-    go false b c = omega arith
 
 module _ (words : List ℕ) (m : ℕ) where
   -- a refusal before the search is neither 0 nor 4
@@ -274,7 +221,7 @@ module _ (words : List ℕ) (m : ℕ) where
         orders =
             λ d. distinct-order (rowsBelow n) n (λ i h. ltb-true i n h) p (placed-distinct words m) (done-all words m d ∙ sym (rows-count n));
         passes = λ d. placing-passing (rowsBelow n) (testOf words m) (test-antitone words m) p (true-search words m .placing);
-        names = λ b i. rw (group-blocked words m b) (has-free n p (row-count-most words) i);
+        names = λ b i. rw (group-blocked n (searchOf words m .progress) b) (has-unplaced n p i (row-count-most words));
         bounded = search-tests n (rowsBelow n) (testOf words m);
       }
 
@@ -295,14 +242,5 @@ module _ (words : List ℕ) (m : ℕ) where
       (λ (f : eqb (tableFault words m .number) done ≡ false).
       let fails = eqb-false (tableFault words m .number) done f in
       rw (found-refused words m (length out) fails)
-      (demanded-refused (tableFault words m .number) (tableFault words m .row) (writtenOf words m out) fails (λ e. omega (arith, fault-low words m))))
+      (demanded-refused (tableFault words m .number) (tableFault words m .row) (writtenOf words m out) fails (λ e. omega (arith, fault-most words m))))
       (either (eqb (tableFault words m .number) done))
-
--- ---- the order stored
-
--- with all rows placed the order begins with them
-pub take-order : (n : ℕ) (p : List ℕ) → length p ≡ n → take n (orderOf n p) ≡ p
-unfolding rowsPlaced
-take-order n p e =
-    let from : n - n ≡ 0 = omega arith in
-    rw (e, from) at (rows-placed n p (omega arith))

@@ -1,10 +1,10 @@
 -- Demand 3 of the search, in one call and in quota steps, over any antitone test.
 -- Assumes nothing.
-use Prim.Native.Nat.{ℕ, zero, suc, _+_, _≤_, _<_}
-use mathlib.Core.Path.{_≡_, refl, sym}
-use mathlib.Core.Logic.{_↔_, ⊎-elim}
+use Prim.Native.Nat.{ℕ, _≤_, _<_}
+use mathlib.Core.Path.{_≡_}
+use mathlib.Core.Logic.{⊎-elim}
 use mathlib.Core.Bool.{Bool, true, false}
-use mathlib.Core.List.{List, [], _∷_}
+use mathlib.Core.List.{List}
 use lib.ListN.{length}
 use native.Mathlib.Omega.{arith}
 use borrow.Author.Tests.{ltb-true, lt-ltb}
@@ -12,7 +12,7 @@ use Rattle.rows.specs.Sums.{count}
 use Rattle.rows.specs.BoolLaws.{either}
 use Rattle.rows.specs.SumLaws.{count-mono, count-all, count-at}
 use Rattle.test.specs.TestLaws.{Antitone}
-use Rattle.search.specs.Search.{Progress, Run, rowsBelow, free, run, fresh, next, finished, search}
+use Rattle.search.specs.Search.{Progress, rowsBelow, free, run, fresh, next, finished, search}
 use Rattle.search.specs.Demand.{Truth}
 use Rattle.search.specs.FreeLaws.{same-set}
 use Rattle.search.specs.StrandLaws.{stranded-blocked, blocked-stranded, same-stranded}
@@ -58,6 +58,10 @@ module _ (n : ℕ) (test : (ℕ → Bool) → ℕ → Bool) (anti : Antitone tes
 
 pub rows-count : (n : ℕ) → count n (rowsBelow n) ≡ n
 rows-count n = count-all n (rowsBelow n) (λ i l. lt-ltb i n l)
+
+-- distinct rows below n are at most n
+pub distinct-most : (n : ℕ) (p : List ℕ) → Distinct (rowsBelow n) p → length p ≤ n
+distinct-most n p D = omega (arith, tally (rowsBelow n) n (λ i h. ltb-true i n h) p D, rows-count n)
 
 -- with n distinct rows placed the state is finished: document 01's "placed = n, or .." is one test
 pub full-finished : (n : ℕ) (test : (ℕ → Bool) → ℕ → Bool) (s : Progress) → Distinct (rowsBelow n) (s .placed) → length (s .placed) ≡ n

@@ -7,25 +7,17 @@ use mathlib.Core.Logic.{⊎-elim}
 use mathlib.Core.Bool.{Bool, true, false, cond}
 use mathlib.Core.List.{List, _∷_}
 use native.Mathlib.Omega.{arith}
-use native.Mathlib.Nat.{le-refl, le-of-suc-le-suc, eq-or-lt-of-le, zero-add, suc-add, add-comm, add-assoc}
+use native.Mathlib.Nat.{le-refl, zero-add, suc-add, add-comm, add-assoc}
 use native.Mathlib.Numerals.{add-one}
 use lib.Dec.{leb, ltb}
 use borrow.Author.Tests.{le-leb, lt-leb, lt-ltb, le-ltb}
 use Rattle.rows.specs.BoolLaws.{either}
 use Rattle.rows.specs.Sums.{on, count, first}
-use Rattle.rows.specs.SumLaws.{first-is, first-taken, first-next, first-end}
+use Rattle.rows.specs.SumLaws.{count-upto, first-is, first-taken, first-next, first-end}
 use Rattle.rows.specs.Sets.{without}
 use Rattle.search.specs.Search.{Progress, Run, fresh, tested, counted, free, next, finished, probe, run, bound, search}
 use Rattle.search.specs.SearchLaws.{run-finished, run-add, search-ends}
 use Rattle.search.specs.Answers.{passing}
-
--- a count up to more takes no fewer
-count-upto : (a b : ℕ) (p : ℕ → Bool) → a ≤ b → count a p ≤ count b p
-count-upto a zero p h = let e : a ≡ 0 = omega arith in rw e (le-refl 0)
-count-upto a (suc b) p h =
-    ⊎-elim (λ (e : a ≡ suc b). rw e (le-refl (count (suc b) p)))
-    (λ (l : a < suc b). omega (arith, count-upto a b p (le-of-suc-le-suc l)))
-    (eq-or-lt-of-le h)
 
 -- a run that ends as another does, with so many tests more
 pub record Ends (made : ℕ) (a b : Run) : Type 0 where

@@ -7,6 +7,7 @@ pub mod StrandLaws
 pub mod OrderLaws
 pub mod SearchLaws
 pub mod DemandLaws
+pub mod AnswerLaws
 pub mod TestOfLaws
 pub mod StateLaws
 pub mod LevelLaws

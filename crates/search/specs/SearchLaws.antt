@@ -1,19 +1,19 @@
 -- Laws of the search: what it reaches is a search free in its choices, what is finished is stuck, how many tests it makes, and how runs compose.
 -- Assumes nothing.
-use Prim.Native.Nat.{ℕ, zero, suc, _+_, _*_, _-_, _/_, _≤_, _<_, zero-le}
-use mathlib.Core.Path.{_≡_, refl, sym, ap, _∙_}
+use Prim.Native.Nat.{ℕ, zero, suc, _+_, _*_, _-_, _≤_, _<_, zero-le}
+use mathlib.Core.Path.{_≡_, refl, ap}
 use mathlib.Core.Logic.{⊎-elim}
-use mathlib.Core.Bool.{Bool, true, false, _&&_, cond}
+use mathlib.Core.Bool.{Bool, true, false, _&&_}
 use mathlib.Core.List.{List, [], _∷_}
 use native.Mathlib.Omega.{arith}
 use native.Mathlib.Nat.{le-refl, le-of-suc-le-suc, eq-or-lt-of-le, zero-add, suc-add, le-div-iff-mul-le, zero-lt-suc}
 use lib.Dec.{leb}
 use borrow.Author.Tests.{leb-true, leb-false, le-leb, lt-leb}
-use Rattle.rows.specs.Sums.{on, sum, count, first}
+use Rattle.rows.specs.Sums.{on, count}
 use Rattle.rows.specs.BoolLaws.{either, not-both, and-in, and-left, and-right}
-use Rattle.rows.specs.SumLaws.{First, first-is, sum-mono, sum-less, on-mono, count-mono, count-le}
+use Rattle.rows.specs.SumLaws.{first-is, sum-mono, sum-less, on-mono, count-mono, count-le}
 use Rattle.rows.specs.Sets.{without}
-use Rattle.search.specs.Search.{Progress, Run, fresh, tested, counted, free, next, finished, probe, run, bound, search}
+use Rattle.search.specs.Search.{Progress, fresh, tested, free, next, finished, probe, run, bound, search}
 use Rattle.search.specs.Demand.{Placing, Stuck}
 use Rattle.search.specs.FreeLaws.{free-in, free-head, free-tail}
 

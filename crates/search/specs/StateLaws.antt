@@ -66,6 +66,13 @@ rows-placed n p h =
     let at = n - length p in
     ap (take (length p)) (drop-at (blanks at) (p ++ blanks (96 - n)) at (blanks-length at)) ∙ take-at p (blanks (96 - n)) (length p) refl
 
+-- with all rows placed the order begins with them
+pub take-order : (n : ℕ) (p : List ℕ) → length p ≡ n → take n (orderOf n p) ≡ p
+unfolding rowsPlaced
+take-order n p e =
+    let from : n - n ≡ 0 = omega arith in
+    rw (e, from) at (rows-placed n p (omega arith))
+
 pub progress-of-state : (n : ℕ) (p : Progress) → length (p .placed) ≤ n → progressOf n (stateOf n p) ≡ p
 progress-of-state n p h = ap (λ (q : List ℕ). record { placed = q; cursor = p .cursor }) (rows-placed n (p .placed) h)
 

@@ -1,34 +1,34 @@
 -- Laws of quota steps: one probe of the code, where a run of probes stands and how it ends, the answer by the check that decides it, and what it is held to.
 -- Assumes nothing.
-use Prim.Native.Nat.{ℕ, zero, suc, _+_, _-_, _/_, _≤_, _<_}
+use Prim.Native.Nat.{ℕ, zero, suc, _+_, _-_, _≤_, _<_}
 use mathlib.Core.Path.{_≡_, refl, sym, ap, ap₂, _∙_, fun-ext, subst}
 use mathlib.Core.Logic.{_⊎_, inl, inr, ⊎-elim}
-use mathlib.Core.Bool.{Bool, true, false, cond}
+use mathlib.Core.Bool.{Bool, true, false}
 use mathlib.Core.List.{List, [], _∷_}
 use native.Mathlib.Omega.{arith}
 use native.Mathlib.Numerals.{add-one}
 use native.Mathlib.Nat.{sub-zero}
-use lib.Dec.{leb, eqb}
+use lib.Dec.{eqb}
 use lib.ListN.{length}
 use borrow.Author.Tests.{eqb-true, eq-eqb, ne-eqb, eqb-false, le-leb, lt-leb, ltb-true}
 use Rattle.rows.specs.Sums.{first}
 use Rattle.rows.specs.SumLaws.{count-at}
 use Rattle.rows.specs.BoolLaws.{either}
-use Rattle.rows.specs.Judge.{Check, check, checkAt, judge}
-use Rattle.rows.specs.Numbers.{done, blocked, unsound, unfinished, table-length, cores, row-range}
+use Rattle.rows.specs.Judge.{Check, check}
+use Rattle.rows.specs.Numbers.{done, blocked, unsound, unfinished}
 use Rattle.rows.specs.Sets.{has, setOf, without, none, withoutRow}
 use Rattle.rows.specs.Table.{rowCount, tableFault}
-use Rattle.rows.specs.TableLaws.{judge-refused, judge-passed, row-count-most, wellSized, someCores, lowestFault}
+use Rattle.rows.specs.TableLaws.{judge-refused, judge-passed, row-count-most, fault-most}
 use Rattle.rows.specs.declared.sets.Set.{Set}
-use Rattle.rows.specs.declared.table.Checked.{Checked}
 use Rattle.search.specs.Search.{rowsBelow, free, Progress, Run, fresh, tested, next, finished, probe, run, bound}
 use Rattle.search.specs.Demand.{Truth}
 use Rattle.search.specs.OrderLaws.{Distinct, tally}
 use Rattle.search.specs.SearchLaws.{next-is, run-finished, run-add, run-quota, run-bound, fresh-potential}
-use Rattle.search.specs.DemandLaws.{rows-count, steps-truth}
+use Rattle.search.specs.DemandLaws.{rows-count, distinct-most, steps-truth}
 use Rattle.search.specs.State.{placedRows, progressOf, stateOf, placedAt, sound}
 use Rattle.search.specs.StateLaws.{order-place, rows-placed, progress-of-state, has-unplaced, less-unplaced, sound-distinct, sound-state}
 use Rattle.search.specs.Answers.{testOf, runOf, numberOf, groupOf, handedBack, steppedBy, workOf, steppedOf, StepDemanded, probedOf}
+use Rattle.search.specs.AnswerLaws.{number-unfinished, number-finished, group-blocked}
 use Rattle.search.specs.TestOfLaws.{test-antitone, test-without, test-mask}
 use Rattle.search.specs.declared.state.State.{State}
 use Rattle.search.specs.declared.steps.Stepped.{Stepped}
@@ -36,11 +36,7 @@ use Rattle.search.specs.declared.steps.Stand.{Stand}
 
 -- ---- distinct rows
 
--- there are no more of them than rows
-pub distinct-most : (n : ℕ) (p : List ℕ) → Distinct (rowsBelow n) p → length p ≤ n
-distinct-most n p D = omega (arith, tally (rowsBelow n) n (λ i h. ltb-true i n h) p D, rows-count n)
-
--- and fewer where a row is still to be tested
+-- they are fewer than n where a row is still to be tested
 distinct-less : (n : ℕ) (test : (ℕ → Bool) → ℕ → Bool) (p : Progress) → Distinct (rowsBelow n) (p .placed) → finished n (rowsBelow n) p ≡ false
     → length (p .placed) < n
 distinct-less n test p D f =
@@ -257,39 +253,6 @@ module _ (words : List ℕ) (m : ℕ) (s : State) (quota : ℕ) where
 
 -- ---- what the answer is held to
 
-fault-number : (words : List ℕ) (m : ℕ) → tableFault words m .number ≤ 3
-unfolding tableFault
-fault-number words m = go (wellSized words) (someCores m) (leb (length words / 3) (lowestFault words))
-  where
-    go : (a b c : Bool) →
-        judge {A = Checked} (check a table-length ∷ check b cores ∷ checkAt c row-range (lowestFault words) ∷ [])
-        (λ number place. record { number = number; row = place }) (record { number = done; row = 0 }) .number ≤ 3
-    go true true true = omega arith
-    go true true false = omega arith
-    go true false c = omega arith
-    go false b c = omega arith
-
-number-unfinished : (n : ℕ) (p : Progress) → numberOf n p ≡ unfinished → finished n (rowsBelow n) p ≡ false
-unfolding numberOf
-number-unfinished n p = go (finished n (rowsBelow n) p) (eqb (length (p .placed)) n)
-  where
-    go : (f b : Bool) → cond f (cond b done blocked) unfinished ≡ unfinished → f ≡ false
-    go true true h = absurd (omega arith)
-    go true false h = absurd (omega arith)
-    go false b h = refl
-
-number-finished : (n : ℕ) (p : Progress) → (numberOf n p ≡ done) ⊎ (numberOf n p ≡ blocked) → finished n (rowsBelow n) p ≡ true
-unfolding numberOf
-number-finished n p = go (finished n (rowsBelow n) p) (eqb (length (p .placed)) n)
-  where
-    go : (f b : Bool) → (cond f (cond b done blocked) unfinished ≡ done) ⊎ (cond f (cond b done blocked) unfinished ≡ blocked) → f ≡ true
-    go true b w = refl
-    go false b w = absurd (⊎-elim (λ (e : 15 ≡ 0). omega arith) (λ (e : 15 ≡ 4). omega arith) w)
-
-group-blocked : (n : ℕ) (p : Progress) → numberOf n p ≡ blocked → groupOf n p ≡ setOf (free (rowsBelow n) (p .placed))
-unfolding groupOf
-group-blocked n p h = rw (eq-eqb (numberOf n p) blocked h) refl
-
 module _ (words : List ℕ) (m : ℕ) (s : State) (quota : ℕ) where
   -- tests from fresh are within the bound
   fresh-bound : (a : ℕ) → runOf words m a fresh .tests ≤ bound (rowCount words)
@@ -366,7 +329,7 @@ module _ (words : List ℕ) (m : ℕ) (s : State) (quota : ℕ) where
       (either (sound (rowCount words) s)))
       (λ (e : eqb number done ≡ false).
       let refused = eqb-false number done e in
-      let few = fault-number words m in
+      let few = fault-most words m in
       subst (StepDemanded words m s quota) (sym (step-refused words m s quota refused))
       (handed-back number (tableFault words m .row) refused (λ q. omega arith) (λ q. omega arith)))
       (either (eqb number done))

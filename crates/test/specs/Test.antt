@@ -5,7 +5,7 @@ use mathlib.Core.Bool.{Bool, false, not, _&&_}
 use mathlib.Core.List.{List, [], _∷_, _++_}
 use lib.Dec.{leb, ltb}
 use Rattle.rows.specs.Sums.{on, sum}
-use Rattle.rows.specs.Judge.{Check, check, judge}
+use Rattle.rows.specs.Judge.{check, judge}
 use Rattle.rows.specs.Numbers.{done, malformed}
 use Rattle.rows.specs.Sets.{has, within}
 use Rattle.rows.specs.Table.{table, rowCount, tableChecks}

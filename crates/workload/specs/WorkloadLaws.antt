@@ -1,13 +1,13 @@
 -- Laws of work and interference: longer lengths hold no less work, the difference is never negative, both interferences stay below the cap, and what fits which width.
 -- Assumes nothing.
 use Prim.Native.Nat.{ℕ, zero, suc, _+_, _-_, _*_, _/_, _^_, _≤_, _<_, min, zero-le}
-use mathlib.Core.Path.{_≡_, refl}
+use mathlib.Core.Path.{_≡_}
 use mathlib.Core.Logic.{⊎-elim}
 use native.Mathlib.Omega.{arith}
-use native.Mathlib.Nat.{le-trans, le-refl, mul-le-mul-right, mul-le-mul-left, eq-or-lt-of-le, div-mul-le-self, le-div-iff-mul-le, zero-lt-suc, div-zero}
+use native.Mathlib.Nat.{le-trans, mul-le-mul-right, mul-le-mul-left, eq-or-lt-of-le, div-mul-le-self, le-div-iff-mul-le, zero-lt-suc, div-zero}
 use Rattle.rows.specs.declared.table.Row.{Row}
 use Rattle.rows.specs.TableLaws.{Ranged}
-use Rattle.workload.specs.Workload.{part, work, cap, plain, carry, extra}
+use Rattle.workload.specs.Workload.{work, cap, plain, carry, extra}
 
 pub div-mono : (m : ℕ) {a b : ℕ} → a ≤ b → a / m ≤ b / m
 div-mono zero {a} {b} h = simp div-zero zero-le

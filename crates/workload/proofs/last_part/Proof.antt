@@ -1,7 +1,7 @@
 -- The whole periods are no longer than the length, so what is left of it is a difference, and the lesser of that and C is the definition's.
 -- Assumes nothing.
 use Prim.Native.Nat.{_*_, _≤_}
-use mathlib.Core.Path.{_≡_, refl, _∙_}
+use mathlib.Core.Path.{refl, _∙_}
 use native.Mathlib.Omega.{arith}
 use native.Mathlib.Nat.{div-mul-le-self}
 use borrow.Author.Needs.{needs}

@@ -1,8 +1,8 @@
 -- The checks are made in the order of the definition's list, and the first that fails gives the answer.
 -- Each return is the law of the check that led there. Assumes nothing.
-use Prim.Native.Nat.{ℕ, _/_, _%_}
-use mathlib.Core.Path.{_≡_, sym, ap, _∙_}
-use mathlib.Core.Bool.{true, false}
+use Prim.Native.Nat.{_/_, _%_}
+use mathlib.Core.Path.{_≡_, sym}
+use mathlib.Core.Bool.{true}
 use mathlib.Core.Logic.{⊎-elim, inl, inr}
 use lib.Dec.{eqb, leb}
 use lib.ListN.{length}
@@ -10,7 +10,6 @@ use borrow.Author.Needs.{needs}
 use borrow.Author.Tests.{ltb-true, ltb-false, eq-eqb, ne-eqb, le-leb, lt-leb}
 use Rattle.rows.specs.BoolLaws.{and-in, and-fails}
 use Rattle.rows.specs.TableLaws.{wellSized, someCores, fault-length, fault-cores, fault-row, fault-none}
-use Rattle.rows.specs.declared.table.Checked.{Checked}
 use Rattle.rows.proofs.table.check_table.Statement.{statement}
 use Rattle.rows.proofs.table.check_table.Tie as tie
 

@@ -1,8 +1,7 @@
 -- The scan's invariant: the first fault from the row at hand on is the first fault of all.
 -- A fault ends it there, a row in range takes it one row on. Assumes nothing.
-use Prim.Native.Nat.{_≤_, _-_}
+use Prim.Native.Nat.{_-_}
 use mathlib.Core.Path.{_≡_, refl, sym, _∙_}
-use native.Mathlib.Omega.{arith}
 use native.Mathlib.Nat.{sub-zero}
 use borrow.Author.Needs.{needs}
 use Rattle.rows.specs.Sums.{first}

@@ -1,6 +1,6 @@
 -- Past the last whole row the T of the definition reads as 0, which is out of range; before it the three words are read as the definition reads them.
 -- The answer then goes by `in_range`, as the definition goes by `inRange`. Assumes nothing.
-use mathlib.Core.Path.{_≡_, sym, _∙_}
+use mathlib.Core.Path.{sym, _∙_}
 use borrow.Author.Needs.{needs}
 use Rattle.rows.specs.TableLaws.{past-fault, read-in-range, read-out-of-range}
 use Rattle.rows.proofs.table.read_row.Statement.{statement}

@@ -1,5 +1,5 @@
 -- The row that was read, or the definition's stand-in for a fault. Assumes nothing.
-use mathlib.Core.Path.{_≡_, sym, ap, _∙_}
+use mathlib.Core.Path.{sym, ap, _∙_}
 use borrow.Author.Needs.{needs}
 use Rattle.rows.specs.Table.{rowOf}
 use Rattle.rows.proofs.table.row_at.Statement.{statement}

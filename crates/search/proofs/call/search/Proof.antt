@@ -11,7 +11,8 @@ use Rattle.rows.specs.Table.{rowCount, tableFault}
 use Rattle.rows.specs.TableLaws.{passed-valid, row-count-most}
 use Rattle.search.specs.Answers.{placedOf, foundOf, writtenOf, Demanded}
 use Rattle.search.specs.StateLaws.{order-length}
-use Rattle.search.specs.CallLaws.{placed-most, found-refused, found-short, found-blocked, found-done, written-same, written-order, found-demanded, take-order}
+use Rattle.search.specs.CallLaws.{placed-most, found-refused, found-short, found-blocked, found-done, written-same, written-order, found-demanded}
+use Rattle.search.specs.StateLaws.{take-order}
 use Rattle.search.specs.declared.call.Found.{Found}
 use Rattle.search.proofs.call.search.Statement.{statement}
 use Rattle.search.proofs.call.search.Tie as tie
