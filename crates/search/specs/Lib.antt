@@ -6,6 +6,7 @@ pub mod FreeLaws
 pub mod StrandLaws
 pub mod OrderLaws
 pub mod SearchLaws
+pub mod ChainLaws
 pub mod DemandLaws
 pub mod AnswerLaws
 pub mod TestOfLaws
