@@ -2,10 +2,10 @@
 //! full ranges, malformed inputs, edges and realistic tables.
 
 mod faults;
-mod rng;
+pub(crate) mod rng;
 mod steps;
 mod systematic;
-mod tables;
+pub(crate) mod tables;
 
 use crate::book::{book_length, book_of, Verdict};
 use crate::exam::{refuses_before_work, Case};

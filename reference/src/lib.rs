@@ -16,5 +16,6 @@ pub mod listing;
 pub mod options;
 pub mod policy;
 pub mod search;
+pub mod simulate;
 pub mod table;
 pub mod test;

@@ -52,3 +52,28 @@ impl Options {
         }
     }
 }
+
+/// `[--tables N] [--seed S] [--carry-ins-fewer K]`
+#[derive(Clone, Debug, PartialEq, Eq)]
+pub struct SimulateOptions {
+    pub tables: usize,
+    pub seed: u64,
+    pub carry_ins_fewer: usize,
+}
+
+impl SimulateOptions {
+    pub fn parse(arguments: impl Iterator<Item = String>) -> Result<SimulateOptions, String> {
+        let mut arguments = arguments.skip(1);
+        let mut options = SimulateOptions { tables: 300, seed: 1, carry_ins_fewer: 0 };
+        while let Some(argument) = arguments.next() {
+            let name = argument.as_str();
+            match name {
+                "--tables" => options.tables = number(name, arguments.next())?,
+                "--seed" => options.seed = number(name, arguments.next())?,
+                "--carry-ins-fewer" => options.carry_ins_fewer = number(name, arguments.next())?,
+                _ => return Err(format!("{name} is no option")),
+            }
+        }
+        Ok(options)
+    }
+}

@@ -3,7 +3,7 @@
 use crate::table::{
     number, order_bytes, require, stored, without, Lent, Mask, Refusal, Table, MOST_ROWS, NO_ROW,
 };
-use crate::test::passes;
+use crate::test::{carry_ins, passes, passes_with};
 use std::collections::BTreeSet;
 
 /// How a search ends: an order of all rows if the group is empty.
@@ -29,11 +29,17 @@ fn passes_lowest(table: &Table, k: usize, unplaced: &BTreeSet<usize>) -> bool {
 }
 
 pub fn audsley(table: &Table) -> Found {
+    audsley_with(table, carry_ins(table))
+}
+
+/// The search by the test with another number of carry-ins.
+pub fn audsley_with(table: &Table, carry_ins: usize) -> Found {
     let mut unplaced: BTreeSet<usize> = (0..table.n()).collect();
     let mut order = Vec::new();
     let mut tests = 0;
     while !unplaced.is_empty() {
-        let first = unplaced.iter().copied().find(|&k| passes_lowest(table, k, &unplaced));
+        let passes = |&k: &usize| passes_with(table, k, &without(&unplaced, k), carry_ins);
+        let first = unplaced.iter().copied().find(passes);
         let Some(row) = first else {
             tests += unplaced.len();
             break;

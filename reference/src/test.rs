@@ -21,23 +21,37 @@ fn carry_in(i: &Row, k: &Row) -> u64 {
     work(i, k.d + i.d - i.c).min(cap(k))
 }
 
-/// The sum of the plain interferences and the m − 1 largest differences.
-fn interference(table: &Table, k: &Row, above: &BTreeSet<usize>) -> u64 {
+/// The sum of the plain interferences and the largest differences, one for each carry-in.
+fn interference(table: &Table, k: &Row, above: &BTreeSet<usize>, carry_ins: usize) -> u64 {
     let rows: Vec<&Row> = above.iter().map(|&row| &table.rows[row]).collect();
     let plain_sum: u64 = rows.iter().map(|i| plain(i, k)).sum();
     let mut differences: Vec<u64> = rows.iter().map(|i| carry_in(i, k) - plain(i, k)).collect();
     differences.sort_by(|a, b| b.cmp(a));
-    plain_sum + differences.iter().take(table.m as usize - 1).sum::<u64>()
+    plain_sum + differences.iter().take(carry_ins).sum::<u64>()
+}
+
+/// The carry-ins that the test counts.
+pub fn carry_ins(table: &Table) -> usize {
+    table.m as usize - 1
 }
 
 /// `used` of row k with the set of rows above it.
 pub fn used(table: &Table, k: usize, above: &BTreeSet<usize>) -> u64 {
-    let row = &table.rows[k];
-    row.c + interference(table, row, above) / table.m
+    used_with(table, k, above, carry_ins(table))
 }
 
 pub fn passes(table: &Table, k: usize, above: &BTreeSet<usize>) -> bool {
-    used(table, k, above) <= table.rows[k].d
+    passes_with(table, k, above, carry_ins(table))
+}
+
+fn used_with(table: &Table, k: usize, above: &BTreeSet<usize>, carry_ins: usize) -> u64 {
+    let row = &table.rows[k];
+    row.c + interference(table, row, above, carry_ins) / table.m
+}
+
+/// The test with another number of carry-ins.
+pub fn passes_with(table: &Table, k: usize, above: &BTreeSet<usize>, carry_ins: usize) -> bool {
+    used_with(table, k, above, carry_ins) <= table.rows[k].d
 }
 
 #[derive(Clone, Debug, Default, PartialEq, Eq)]

@@ -163,20 +163,37 @@ fn placed(lent: &Lent) -> bool {
     audsley(&checked(lent)).group.is_empty()
 }
 
-/// A table whose search ends just on one side of the border.
-fn border(rng: &Rng, size: Size) -> Lent {
-    let n = row_count(rng, size).min(24);
-    let lent = realistic_of(rng, n);
+/// The last scale of C, in thousandths, at which a table is accepted, as halving finds it.
+fn last_scale(lent: &Lent, accepted: impl Fn(&Lent) -> bool) -> u64 {
     let (mut below, mut above) = (1, 5000);
     while above - below > 1 {
         let middle = (below + above) / 2;
-        if placed(&scaled(&lent, middle)) {
+        if accepted(&scaled(lent, middle)) {
             below = middle;
         } else {
             above = middle;
         }
     }
-    scaled(&lent, rng.pick(&[below, above]))
+    below
+}
+
+fn realistic_for_border(rng: &Rng, size: Size) -> Lent {
+    let n = row_count(rng, size).min(24);
+    realistic_of(rng, n)
+}
+
+/// A table whose search ends just on one side of the border.
+fn border(rng: &Rng, size: Size) -> Lent {
+    let lent = realistic_for_border(rng, size);
+    let last = last_scale(&lent, placed);
+    scaled(&lent, rng.pick(&[last, last + 1]))
+}
+
+/// A realistic table, C scaled until the next scale is no longer accepted.
+pub fn border_of(rng: &Rng, size: Size, accepted: impl Fn(&Lent) -> bool) -> Lent {
+    let lent = realistic_for_border(rng, size);
+    let last = last_scale(&lent, accepted);
+    scaled(&lent, last)
 }
 
 /// k of DkC, near enough to find rows whose keys are almost equal.
