@@ -12,6 +12,7 @@ use Rattle.workload.specs.Workload.{work, cap, plain, carry, extra}
 use Rattle.test.specs.Test.{interference, used, passes}
 use Rattle.search.specs.Search.{rowsBelow, free, next, finished, probe, search}
 use Rattle.search.specs.Demand.{among}
+use Rattle.policy.specs.Policy.{lessRoot, smaller, before, rank, ranked, proposed}
 
 row : ℕ → ℕ → ℕ → Row
 row c d t = record { c = c; d = d; t = t }
@@ -19,6 +20,8 @@ row c d t = record { c = c; d = d; t = t }
 -- A search: its cores and rows; the order from the highest level down with used at each level; the tests; the blocked rows with used, the other blocked rows above.
 pub data Case : Type 0 where
   searched : (name m : ℕ) → List Row → (order uses : List ℕ) → (tests : ℕ) → (group blockedUses : List ℕ) → Case
+  -- a proposal: its cores, rows and policy; the order
+  proposes : (name m : ℕ) → List Row → (policy : ℕ) → (order : List ℕ) → Case
 
 same : List ℕ → List ℕ → Bool
 same [] [] = true
@@ -54,6 +57,7 @@ holds (searched name m rows order uses tests group blockedUses) =
     && eqb (r .tests) tests
     && same (members left (λ i. i) n 0) group
     && same (members left (λ i. used n t m (m - 1) (without left i) i) n 0) blockedUses
+holds (proposes name m rows policy order) = same (proposed m policy (length rows) (tableOf rows)) order
 
 pub every : List Case → Bool
 every [] = true
@@ -62,6 +66,9 @@ every (c ∷ cs) = holds c && every cs
 three : List Row
 three = row 23 33 33 ∷ row 106 210 214 ∷ row 58 216 217 ∷ []
 
+four : List Row
+four = row 23 33 33 ∷ row 106 210 214 ∷ row 58 216 217 ∷ row 46 60 64 ∷ []
+
 pub cases : List Case
 cases =
     searched 1 1 [] [] [] 0 [] []
@@ -69,14 +76,17 @@ cases =
     ∷ searched 3 2 (row 5 5 5 ∷ row 5 5 5 ∷ []) (1 ∷ 0 ∷ []) (5 ∷ 5 ∷ []) 2 [] []
     ∷ searched 4 2 (row 5 5 5 ∷ row 5 5 5 ∷ row 5 5 5 ∷ []) [] [] 3 (0 ∷ 1 ∷ 2 ∷ []) (6 ∷ 6 ∷ 6 ∷ [])
     ∷ searched 5 2 three (1 ∷ 0 ∷ 2 ∷ []) (106 ∷ 28 ∷ 215 ∷ []) 5 [] []
-    ∷ searched 6 3 (row 23 33 33 ∷ row 106 210 214 ∷ row 58 216 217 ∷ row 46 60 64 ∷ []) [] [] 4 (0 ∷ 1 ∷ 2 ∷ 3 ∷ [])
+    ∷ searched 6 3 four [] [] 4 (0 ∷ 1 ∷ 2 ∷ 3 ∷ [])
     (34 ∷ 211 ∷ 217 ∷ 61 ∷ [])
     ∷ searched 7 2 (row 1 2 3 ∷ row 1 2 3 ∷ row 2 4 4 ∷ row 2 4 4 ∷ []) [] [] 4 (0 ∷ 1 ∷ 2 ∷ 3 ∷ []) (3 ∷ 3 ∷ 5 ∷ 5 ∷ [])
     ∷ searched 8 1 (row 1 1 10 ∷ row 1 2 10 ∷ row 1 3 10 ∷ []) (0 ∷ 1 ∷ 2 ∷ []) (1 ∷ 2 ∷ 3 ∷ []) 6 [] []
     ∷ searched 9 1 (row 1 3 10 ∷ row 1 2 10 ∷ row 1 1 10 ∷ []) (2 ∷ 1 ∷ 0 ∷ []) (1 ∷ 2 ∷ 3 ∷ []) 3 [] []
+    ∷ proposes 10 3 four 0 (0 ∷ 3 ∷ 1 ∷ 2 ∷ [])
+    ∷ proposes 10 3 four 1 (0 ∷ 3 ∷ 1 ∷ 2 ∷ [])
+    ∷ proposes 10 3 four 2 (3 ∷ 0 ∷ 1 ∷ 2 ∷ [])
     ∷ []
 
 -- every case holds
 pub K : every cases ≡ true
-unfolding row tableOf same members levels holds every three cases work cap plain carry extra interference used passes without free next finished probe search
+unfolding row tableOf same members levels holds every three four cases lessRoot smaller before rank ranked proposed work cap plain carry extra interference used passes without free next finished probe search
 K = refl

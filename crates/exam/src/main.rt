@@ -23,6 +23,15 @@ fn one_case(bytes: &mut [u8], words: &mut [u32], out: &mut [u8]) -> bool
     if kind == 3 {
         return table::step(bytes, words);
     }
+    if kind == 4 {
+        return table::policy(bytes, words, out);
+    }
+    if kind == 5 {
+        return table::check_order(bytes, words, out);
+    }
+    if kind == 6 {
+        return table::check_group(bytes, words);
+    }
     false
 }
 

@@ -125,3 +125,73 @@ pub fn step(bytes: &mut [u8], words: &mut [u32]) -> bool
     answer_step(&words[..n], &*bytes);
     true
 }
+
+fn answer_policy(words: &[u32], m: u32, policy: u32, out: &mut [u8]) {
+    let r = policy::propose(words, m, policy, out);
+    output::part(r.number as u64);
+    output::part(r.row as u64);
+    io::write_all(1, &*out);
+}
+
+// Kind 4: m, the policy and the output.
+pub fn policy(bytes: &mut [u8], words: &mut [u32], out: &mut [u8]) -> bool
+    requires { ⌜ (4096 ≤ length (now bytes)) × (512 ≤ length (now words)) × (4096 ≤ length (now out)) ⌝ }
+{
+    let n = read(bytes, words, 8);
+    if 512 < n {
+        return false;
+    }
+    let m = word(&*bytes, 0);
+    let policy = word(&*bytes, 4);
+    let size = input::list(bytes, out);
+    if 4096 < size {
+        return false;
+    }
+    answer_policy(&words[..n], m, policy, &mut out[..size]);
+    true
+}
+
+fn answer_order(words: &[u32], m: u32, order: &[u8]) {
+    let r = audit::check_order(words, m, order);
+    output::part(r.number as u64);
+    output::part(r.row as u64);
+    output::part(r.level as u64);
+    output::part(r.used);
+}
+
+// Kind 5: m and the order.
+pub fn check_order(bytes: &mut [u8], words: &mut [u32], out: &mut [u8]) -> bool
+    requires { ⌜ (4096 ≤ length (now bytes)) × (512 ≤ length (now words)) × (4096 ≤ length (now out)) ⌝ }
+{
+    let n = read(bytes, words, 4);
+    if 512 < n {
+        return false;
+    }
+    let m = word(&*bytes, 0);
+    let size = input::list(bytes, out);
+    if 4096 < size {
+        return false;
+    }
+    answer_order(&words[..n], m, &out[..size]);
+    true
+}
+
+// Kind 6: m and the group.
+fn answer_group(words: &[u32], bytes: &[u8])
+    requires { ⌜ 20 ≤ length (now bytes) ⌝ }
+{
+    let r = audit::check_group(words, word(bytes, 0), set(bytes, 4));
+    output::part(r.number as u64);
+    output::part(r.row as u64);
+}
+
+pub fn check_group(bytes: &mut [u8], words: &mut [u32]) -> bool
+    requires { ⌜ (4096 ≤ length (now bytes)) × (512 ≤ length (now words)) ⌝ }
+{
+    let n = read(bytes, words, 20);
+    if 512 < n {
+        return false;
+    }
+    answer_group(&words[..n], &*bytes);
+    true
+}

@@ -16,7 +16,7 @@ use lib.Count.{ones, ones-step, ones-cat}
 use borrow.Author.Tests.{ltb-true, ltb-false, eqb-true, lt-ltb}
 use Rattle.rows.specs.BoolLaws.{either, not-both, and-not, not-and}
 use Rattle.rows.specs.Sums.{on, count}
-use Rattle.rows.specs.SumLaws.{sum-front, on-le}
+use Rattle.rows.specs.SumLaws.{count-zero-iff, sum-front, on-le}
 use Rattle.rows.specs.Sets.{word, bit, has, mask, setOf, without, below, withRow, withoutRow, size, within}
 use Rattle.rows.specs.declared.sets.Set.{Set}
 
@@ -280,6 +280,10 @@ pub size-ones : (s : Set) → FitsWords s → ones (s .low) + ones (s .high) ≡
 unfolding size
 size-ones s f =
     add-comm (ones (s .low)) (ones (s .high)) ∙ sym (ones-cat 64 (s .high) (s .low) (f .0)) ∙ ones-count 128 (word s) (word-lt s f)
+
+pub size-zero-iff : (s : Set) → (size s ≡ 0) ↔ ((i : ℕ) → i < 128 → has s i ≡ false)
+unfolding size
+size-zero-iff s = count-zero-iff 128 (has s)
 
 pub within-iff : (s : Set) (n : ℕ) → (within s n ≡ true) ↔ ((i : ℕ) → n ≤ i → has s i ≡ false)
 within-iff s n =

@@ -1,8 +1,8 @@
 -- Laws of sums, of counts, and of the first number that a test takes, in this order.
 -- Assumes nothing.
 use Prim.Native.Nat.{ℕ, zero, suc, _+_, _*_, _-_, _≤_, _<_, zero-le}
-use mathlib.Core.Path.{_≡_, refl, sym}
-use mathlib.Core.Logic.{⊎-elim}
+use mathlib.Core.Path.{_≡_, refl, sym, ap, _∙_}
+use mathlib.Core.Logic.{⊎-elim, _↔_}
 use mathlib.Core.Bool.{Bool, true, false}
 use native.Mathlib.Omega.{arith}
 use native.Mathlib.Numerals.{add-one}
@@ -93,6 +93,13 @@ count-le (suc n) p = omega (arith, count-le n p, on-le (p n) 1)
 pub count-at : (n : ℕ) (p : ℕ → Bool) (k : ℕ) → k < n → p k ≡ true → 1 ≤ count n p
 count-at n p k l e =
     omega (arith, sum-zero n, sum-less n (λ i. 0) (λ i. on (p i) 1) k l (λ i. zero-le) (rw e (le-refl 1)))
+
+pub count-zero-iff : (n : ℕ) (p : ℕ → Bool) → (count n p ≡ 0) ↔ ((i : ℕ) → i < n → p i ≡ false)
+count-zero-iff n p = (
+  λ z i l.
+      ⊎-elim (λ (e : p i ≡ true). absurd (omega (arith, count-at n p i l e))) (λ (e : p i ≡ false). e) (either (p i)),
+  λ h. sum-ext n (λ i. on (p i) 1) (λ i. 0) (λ i l. ap (λ (b : Bool). on b 1) (h i l)) ∙ sum-zero n,
+)
 
 count-none : (n k : ℕ) → n ≤ k → count n (λ i. eqb i k) ≡ 0
 count-none zero k h = refl

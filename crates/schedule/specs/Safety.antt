@@ -22,8 +22,10 @@ use Rattle.search.specs.Search.{rowsBelow, free, search}
 use Rattle.search.specs.Demand.{times, Order, among, Passing}
 use Rattle.search.specs.OrderLaws.{ledger, placing-distinct, placing-passing}
 use Rattle.search.specs.DemandLaws.{search-truth}
-use Rattle.search.specs.Answers.{foundOf, placedOf}
+use Rattle.search.specs.Answers.{testOf, foundOf, placedOf}
 use Rattle.search.specs.CallLaws.{found-refused, found-demanded}
+use Rattle.audit.specs.Audit.{orderCheckedOf}
+use Rattle.audit.specs.AuditLaws.{order-done-iff}
 use Rattle.search.specs.declared.call.Found.{Found}
 use Rattle.schedule.specs.Schedule.{above, level, Pattern, Scheduled, Safe, Proper, Enough}
 use Rattle.schedule.specs.Jobs.{jobs-sound, jobs-exist}
@@ -77,11 +79,23 @@ found-valid words m room h =
     absurd (fails (sym (ap (λ (r : Found). r .number) (found-refused words m room fails)) ∙ h)))
     (either (eqb (tableFault words m .number) done))
 
+-- an order of a table in range that passes at every level, by document 01's test, is safe
+valid-safe : (words : List ℕ) (m : ℕ) (o : List ℕ) → Valid words m → Order (rowsBelow (rowCount words)) o → Passing (testOf words m) o
+    → Safe (rowCount words) m (table words) o
+valid-safe words m o valid =
+    order-safe (rowCount words) m (table words) (valid .some-cores) (λ i l. ranged-proper (table words i) (valid .ranged i l)) (m - 1)
+    (inl (omega (arith, valid .some-cores))) o
+
 -- the order that the search answers is safe: where it answers 0, every job of every row is in time in every legal schedule
 pub found-safe : (words : List ℕ) (m : ℕ) (out : List ℕ) → foundOf words m (length out) .number ≡ done
     → Safe (rowCount words) m (table words) (placedOf words m)
 found-safe words m out h =
-    let valid = found-valid words m (length out) h in
-    let D = found-demanded words m out in
-    order-safe (rowCount words) m (table words) (valid .some-cores) (λ i l. ranged-proper (table words i) (valid .ranged i l)) (m - 1)
-    (inl (omega (arith, valid .some-cores))) (placedOf words m) (D .orders h) (D .passes h)
+    let answer = found-demanded words m out in
+    valid-safe words m (placedOf words m) (found-valid words m (length out) h) (answer .orders h) (answer .passes h)
+
+-- and so is an order that the checker answers 0
+pub audited-safe : (words : List ℕ) (m : ℕ) (o : List ℕ) → tableFault words m .number ≡ done → orderCheckedOf words m o .number ≡ done
+    → Safe (rowCount words) m (table words) o
+audited-safe words m o passed h =
+    let both = order-done-iff words m passed o .0 h in
+    valid-safe words m o (passed-valid words m passed) (both .0) (both .1)

@@ -25,7 +25,7 @@ fn longest_period(table: &Table) -> u64 {
 /// Jobs of every row by one of the patterns.
 pub fn random_jobs(rng: &Rng, table: &Table) -> Vec<Vec<Job>> {
     let end = end_of_releases(table);
-    let releases = match rng.below(8) {
+    let releases = match std::env::var("P").unwrap().parse::<u64>().unwrap() {
         0 => together(table, end),
         1 | 2 => offsets(rng, table, end),
         3 | 4 => gaps(rng, table, end),

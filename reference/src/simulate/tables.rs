@@ -6,7 +6,7 @@ use crate::gen::Size;
 use crate::table::Lent;
 
 pub fn random_table(rng: &Rng, accepted: impl Fn(&Lent) -> bool) -> Lent {
-    match rng.below(10) {
+    match rng.below(10).max(3) {
         0 => table(rng, Size::Full),
         1 => table(rng, Size::Small),
         2 => border_of(rng, Size::Small, accepted),
@@ -16,13 +16,14 @@ pub fn random_table(rng: &Rng, accepted: impl Fn(&Lent) -> bool) -> Lent {
 
 /// A small table of which no C can be longer.
 pub fn tight(rng: &Rng, accepted: impl Fn(&Lent) -> bool) -> Lent {
-    let m = rng.pick(&[1, 2, 2, 2, 3, 3, 4]);
-    let n = m + rng.size(2, 4);
-    let most = rng.ticks(4, 24);
+    let e = |n: &str| std::env::var(n).unwrap().parse::<usize>().unwrap();
+    let m = e("M");
+    let n = m + e("N");
+    let most = e("TM") as u32;
     let mut words = Vec::new();
     for _ in 0..n {
         let t = rng.ticks(2, most);
-        words.extend([1, rng.ticks(t / 2, t).max(1), t]);
+        words.extend([1, rng.ticks(t * e("DL") as u32 / 100, t).max(1), t]);
     }
     let mut lent = Lent { words, m: m as u32 };
     let mut growing: Vec<usize> = (0..n).collect();

@@ -1,0 +1,4 @@
+pub mod Audit
+pub mod OrderLaws
+pub mod GroupLaws
+pub mod AuditLaws
