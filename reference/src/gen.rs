@@ -234,7 +234,7 @@ impl Generator {
     }
 }
 
-fn checked(lent: &Lent) -> Table {
+pub(crate) fn checked(lent: &Lent) -> Table {
     lent.checked().expect("generated tables are in range")
 }
 

@@ -3,7 +3,8 @@
 //!
 //! `compare EXAM_PROGRAM` runs generated cases through the program and compares
 //! every answer whole; `cases` writes cases and answers to files; `stand_in`
-//! answers in the program's place.
+//! answers in the program's place; `simulate` runs accepted tables in random
+//! legal schedules and counts late jobs.
 #![forbid(unsafe_code)]
 
 pub mod audit;

@@ -1,4 +1,4 @@
-//! Command-line options shared by the programs.
+//! Command-line options of the programs.
 
 use crate::exam::KINDS;
 

@@ -42,7 +42,7 @@ impl Row {
         Row { c: words[0].into(), d: words[1].into(), t: words[2].into() }
     }
 
-    fn in_range(&self) -> bool {
+    pub fn in_range(&self) -> bool {
         1 <= self.c && self.c <= self.d && self.d <= self.t && self.t <= MOST_TICKS.into()
     }
 }

@@ -15,7 +15,7 @@ use borrow.Author.Tests.{ltb-true, leb-false, eqb-true, eq-eqb}
 use Rattle.rows.specs.BoolLaws.{either, not-both, and-in, and-left, and-right, same}
 use Rattle.rows.specs.Judge.{Check, check}
 use Rattle.rows.specs.Numbers.{done, malformed, order-fails}
-use Rattle.rows.specs.Sums.{on}
+use Rattle.rows.specs.Sums.{times, on}
 use Rattle.rows.specs.SumLaws.{count-zero-iff, on-le, on-true}
 use Rattle.rows.specs.Sets.{has, setOf, below, withoutRow}
 use Rattle.rows.specs.SetLaws.{has-set-of}
@@ -24,7 +24,7 @@ use Rattle.rows.specs.TableLaws.{judge-refused, judge-passed, row-count-most}
 use Rattle.test.specs.Test.{used, passes}
 use Rattle.test.specs.TestLaws.{used-ext}
 use Rattle.search.specs.Search.{rowsBelow, free}
-use Rattle.search.specs.Demand.{times, Order, among, Passing}
+use Rattle.search.specs.Demand.{Order, among, Passing}
 use Rattle.search.specs.State.{distinct}
 use Rattle.search.specs.Answers.{testOf}
 use Rattle.search.specs.FreeLaws.{free-in, in-free}

@@ -1,27 +1,34 @@
 -- The K cases of document 01, as one table under one statement about the definitions: `K`, the last line.
 -- Assumes nothing.
-use Prim.Native.Nat.{ℕ, zero, suc, _-_}
+use Prim.Native.Nat.{ℕ, zero, suc, _-_, _*_}
 use mathlib.Core.Path.{_≡_, refl}
 use mathlib.Core.Bool.{Bool, true, false, cond, _&&_}
 use mathlib.Core.List.{List, [], _∷_}
 use lib.Dec.{eqb}
-use lib.ListN.{length, getD, take}
+use lib.ListN.{length, getD, take, drop}
 use Rattle.rows.specs.declared.table.Row.{Row}
 use Rattle.rows.specs.Sets.{without}
 use Rattle.workload.specs.Workload.{work, cap, plain, carry, extra}
 use Rattle.test.specs.Test.{interference, used, passes}
 use Rattle.search.specs.Search.{rowsBelow, free, next, finished, probe, search}
 use Rattle.search.specs.Demand.{among}
+use Rattle.rows.specs.Table.{rowCount}
+use Rattle.book.specs.Bytes.{run, sum16, checkOf}
+use Rattle.book.specs.Layout.{editionOne, inner, opened, sealed, bookOf}
+use Rattle.book.specs.Read.{noVerdict}
+use Rattle.book.specs.Write.{contentOf}
 use Rattle.policy.specs.Policy.{lessRoot, smaller, before, rank, ranked, proposed}
 
 row : ℕ → ℕ → ℕ → Row
 row c d t = record { c = c; d = d; t = t }
 
--- A search: its cores and rows; the order from the highest level down with used at each level; the tests; the blocked rows with used, the other blocked rows above.
+-- What a case says, with its number. A search: its cores and rows; the order from the highest level down with used at each level; the tests; the blocked rows with used, the other blocked rows above.
 pub data Case : Type 0 where
   searched : (name m : ℕ) → List Row → (order uses : List ℕ) → (tests : ℕ) → (group blockedUses : List ℕ) → Case
   -- a proposal: its cores, rows and policy; the order
   proposes : (name m : ℕ) → List Row → (policy : ℕ) → (order : List ℕ) → Case
+  -- a book without a verdict, of no rows: its cores; its blocks and the check of the last
+  empties : (name m blocks : ℕ) → (check : List ℕ) → Case
 
 same : List ℕ → List ℕ → Bool
 same [] [] = true
@@ -58,6 +65,9 @@ holds (searched name m rows order uses tests group blockedUses) =
     && same (members left (λ i. i) n 0) group
     && same (members left (λ i. used n t m (m - 1) (without left i) i) n 0) blockedUses
 holds (proposes name m rows policy order) = same (proposed m policy (length rows) (tableOf rows)) order
+holds (empties name m blocks check) =
+    let book = bookOf editionOne (contentOf [] m noVerdict) in
+    eqb (length book) (512 * blocks) && same (drop (512 * blocks - 2) book) check
 
 pub every : List Case → Bool
 every [] = true
@@ -84,9 +94,10 @@ cases =
     ∷ proposes 10 3 four 0 (0 ∷ 3 ∷ 1 ∷ 2 ∷ [])
     ∷ proposes 10 3 four 1 (0 ∷ 3 ∷ 1 ∷ 2 ∷ [])
     ∷ proposes 10 3 four 2 (3 ∷ 0 ∷ 1 ∷ 2 ∷ [])
+    ∷ empties 11 1 1 (0xFE ∷ 0xFE ∷ [])
     ∷ []
 
 -- every case holds
 pub K : every cases ≡ true
-unfolding row tableOf same members levels holds every three four cases lessRoot smaller before rank ranked proposed work cap plain carry extra interference used passes without free next finished probe search
+unfolding row tableOf same members levels holds every three four cases lessRoot smaller before rank ranked proposed rowCount run sum16 checkOf inner opened sealed bookOf work cap plain carry extra interference used passes without free next finished probe search
 K = refl

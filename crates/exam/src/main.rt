@@ -3,6 +3,7 @@
 ghost use Prim.Native.Nat.{_≤_};
 ghost use lib.ListN.{length};
 
+mod books;
 mod input;
 mod output;
 mod table;
@@ -31,6 +32,12 @@ fn one_case(bytes: &mut [u8], words: &mut [u32], out: &mut [u8]) -> bool
     }
     if kind == 6 {
         return table::check_group(bytes, words);
+    }
+    if kind == 7 {
+        return books::write(bytes, words, out);
+    }
+    if kind == 8 {
+        return books::read(bytes, words, out);
     }
     false
 }

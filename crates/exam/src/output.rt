@@ -25,3 +25,22 @@ pub fn set(value: Set) {
 pub fn order(order: [u8; 96]) {
     io::write_all(1, &order);
 }
+
+// A word, four bytes, high byte first.
+fn word(value: u32) {
+    let bytes = [
+        (value / 0x100_0000) as u8,
+        (value / 0x1_0000 % 256) as u8,
+        (value / 256 % 256) as u8,
+        (value % 256) as u8,
+    ];
+    io::write_all(1, &bytes);
+}
+
+pub fn words(words: &[u32]) {
+    let mut i: usize = 0;
+    while i < words.len() {
+        word(words[i]);
+        i += 1;
+    }
+}

@@ -6,13 +6,13 @@ use crate::output;
 use rows::Set;
 use search::State;
 
-fn word(bytes: &[u8], at: usize) -> u32
+pub fn word(bytes: &[u8], at: usize) -> u32
     requires { ⌜ at + 4 ≤ length (now bytes) ⌝ }
 {
     (input::number_at(bytes, at, 4) % 0x1_0000_0000) as u32
 }
 
-fn set(bytes: &[u8], at: usize) -> Set
+pub fn set(bytes: &[u8], at: usize) -> Set
     requires { ⌜ at + 16 ≤ length (now bytes) ⌝ }
 {
     Set {
@@ -34,7 +34,7 @@ fn answer_test(words: &[u32], bytes: &[u8])
 }
 
 // The table of a case and so many bytes after it: how many words; 513 where the input ends before them.
-fn read(bytes: &mut [u8], words: &mut [u32], size: usize) -> usize
+pub fn read(bytes: &mut [u8], words: &mut [u32], size: usize) -> usize
     requires { ⌜ (4096 ≤ length (now bytes)) × (512 ≤ length (now words)) × (size ≤ 4096) ⌝ }
 {
     let n = input::words(bytes, words);

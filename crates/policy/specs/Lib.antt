@@ -3,4 +3,4 @@ pub mod RootLaws
 pub mod RankLaws
 pub mod PolicyLaws
 pub mod KeyLaws
-pub mod Cases
+pub mod Ties

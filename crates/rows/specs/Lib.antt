@@ -4,6 +4,7 @@ pub mod Sets
 pub mod Judge
 pub mod Table
 pub mod BoolLaws
+pub mod NumberLaws
 pub mod SumLaws
 pub mod SetLaws
 pub mod TableLaws

@@ -1,7 +1,9 @@
--- Sums and counts over the numbers below n, and the first number that a test takes.
+-- Sums and counts over the numbers below n, the first number that a test takes, and how often a number stands in a list.
 -- Assumes nothing.
 use Prim.Native.Nat.{ℕ, zero, suc, _+_}
 use mathlib.Core.Bool.{Bool, true, false, cond}
+use mathlib.Core.List.{List, [], _∷_}
+use lib.Dec.{eqb}
 
 -- x where the test holds, else 0
 abbrev pub on : Bool → ℕ → ℕ
@@ -21,3 +23,8 @@ count n p = sum n (λ i. on (p i) 1)
 abbrev pub first : (ℕ → Bool) → ℕ → ℕ → ℕ
 first p zero i = i
 first p (suc d) i = let rest = first p d (suc i) in cond (p i) i rest
+
+-- how often i stands in the list
+abbrev pub times : ℕ → List ℕ → ℕ
+times i [] = 0
+times i (x ∷ xs) = on (eqb i x) 1 + times i xs

@@ -9,6 +9,7 @@ use native.Mathlib.Omega.{arith}
 use native.Mathlib.Nat.{le-refl, le-trans, eq-or-lt-of-le, le-of-suc-le-suc}
 use lib.Dec.{leb}
 use borrow.Author.Tests.{leb-false}
+use Rattle.rows.specs.NumberLaws.{le-or-lt}
 use Rattle.rows.specs.Sums.{count}
 use Rattle.rows.specs.BoolLaws.{either, and-in, and-left, and-right}
 use Rattle.rows.specs.SumLaws.{sum-zero, count-mono}
@@ -16,7 +17,7 @@ use Rattle.rows.specs.Sets.{_⊆_}
 use Rattle.rows.specs.declared.table.Row.{Row}
 use Rattle.schedule.specs.Schedule.{Proper}
 use Rattle.schedule.specs.Lives.{Life, served, due, Backlog, LifeOf}
-use Rattle.schedule.specs.MoreSums.{le-or-lt, first-after}
+use Rattle.schedule.specs.MoreSums.{first-after}
 use Rattle.schedule.specs.WorkBounds.{served-mono, Fresh, release-least}
 
 -- What the proofs use of a schedule: `over k` are the tasks above k, and where k is behind and does not execute, m of them do.

@@ -11,6 +11,7 @@ use native.Mathlib.Nat.{le-trans, one-mul, mul-zero, mul-comm, mul-assoc, mul-su
 use lib.Dec.{leb, ltb}
 use lib.ListN.{length, take, getD, length-take}
 use borrow.Author.Tests.{leb-true, le-leb, ltb-true, lt-ltb}
+use Rattle.rows.specs.NumberLaws.{le-or-lt}
 use Rattle.rows.specs.Sums.{on, count}
 use Rattle.rows.specs.BoolLaws.{either}
 use Rattle.rows.specs.declared.table.Row.{Row}
@@ -21,7 +22,7 @@ use Rattle.test.specs.TestLaws.{passes-iff, passes-few}
 use Rattle.search.specs.Search.{rowsBelow}
 use Rattle.search.specs.Demand.{Order, among, Passing}
 use Rattle.schedule.specs.Schedule.{Safe, Proper, Enough}
-use Rattle.schedule.specs.MoreSums.{le-or-lt, top-scale}
+use Rattle.schedule.specs.MoreSums.{top-scale}
 use Rattle.schedule.specs.LevelLaws.{among-count, order-row}
 use Rattle.schedule.specs.Safety.{order-safe}
 

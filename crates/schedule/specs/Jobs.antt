@@ -10,6 +10,7 @@ use native.Mathlib.Omega.{arith}
 use native.Mathlib.Nat.{le-refl, le-trans, le-of-eq, ne-of-lt, eq-or-lt-of-le}
 use lib.Dec.{ltb, eqb}
 use borrow.Author.Tests.{ltb-true, ltb-false, lt-ltb, eqb-true, eq-eqb, ne-eqb}
+use Rattle.rows.specs.NumberLaws.{le-or-lt}
 use Rattle.rows.specs.Sums.{on, sum, first}
 use Rattle.rows.specs.BoolLaws.{either, not-both}
 use Rattle.rows.specs.SumLaws.{sum-mono, sum-add, sum-zero, count-one, first-is}
@@ -17,7 +18,7 @@ use Rattle.rows.specs.declared.table.Row.{Row}
 use Rattle.test.specs.Test.{passes}
 use Rattle.schedule.specs.Schedule.{Course, active, isJob, service, Pending, Sporadic, InTime, above, LegalJobs, Pattern, Scheduled, Proper, Enough}
 use Rattle.schedule.specs.Lives.{Life, served, due, Backlog, LifeOf, LegalLives}
-use Rattle.schedule.specs.MoreSums.{le-or-lt, sum-prefix, sum-smaller, count-single, spaced-mono, spaced-least}
+use Rattle.schedule.specs.MoreSums.{sum-prefix, sum-smaller, count-single, spaced-mono, spaced-least}
 use Rattle.schedule.specs.Sound.{legal-meets}
 use Rattle.schedule.specs.Exists.{made, made-legal}
 

@@ -11,6 +11,7 @@ use lib.Dec.{eqb}
 use lib.ListN.{length, take, getD}
 use lib.Seq.{take-length}
 use borrow.Author.Tests.{ltb-true, lt-ltb, eqb-true, eq-eqb}
+use Rattle.rows.specs.NumberLaws.{le-or-lt}
 use Rattle.rows.specs.Sums.{on, sum, count}
 use Rattle.rows.specs.BoolLaws.{either, not-both}
 use Rattle.rows.specs.SumLaws.{on-true, sum-mono, sum-add, sum-zero, first-is}
@@ -19,7 +20,7 @@ use Rattle.search.specs.Search.{rowsBelow, elem}
 use Rattle.search.specs.Demand.{Order, among}
 use Rattle.search.specs.OrderLaws.{elem-times, times-pos}
 use Rattle.schedule.specs.Schedule.{above, level}
-use Rattle.schedule.specs.MoreSums.{le-or-lt, count-single}
+use Rattle.schedule.specs.MoreSums.{count-single}
 
 -- a row of a list has a place, and an entry before place b is among the first b
 elem-place : (i : ℕ) (o : List ℕ) → elem i o ≡ true → (j : ℕ) × (j < length o) × (getD o j 0 ≡ i)

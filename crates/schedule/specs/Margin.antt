@@ -9,15 +9,14 @@ use mathlib.Core.List.{List}
 use native.Mathlib.Omega.{arith}
 use native.Mathlib.Nat.{le-trans, lt-of-le-of-lt, mul-comm, mul-assoc, mul-le-mul, mul-le-mul-left, mul-lt-mul-of-pos-left, lt-of-mul-lt-mul-left, eq-or-lt-of-le, div-mul-le-self, lt-div-mul-add, lt-of-mul-lt-mul-right, min-eq-left, min-eq-right, min-le-left, min-le-right, le-of-lt}
 use lib.ListN.{take, getD}
+use Rattle.rows.specs.NumberLaws.{le-or-lt, div-mono}
 use Rattle.rows.specs.declared.table.Row.{Row}
 use Rattle.workload.specs.Workload.{work, cap, plain, carry}
-use Rattle.workload.specs.WorkloadLaws.{div-mono}
 use Rattle.test.specs.Test.{interference, passes}
 use Rattle.test.specs.TestLaws.{passes-iff}
 use Rattle.search.specs.Search.{rowsBelow}
 use Rattle.search.specs.Demand.{Order, among, Passing}
 use Rattle.schedule.specs.Schedule.{Safe, Proper, Enough}
-use Rattle.schedule.specs.MoreSums.{le-or-lt}
 use Rattle.schedule.specs.LevelLaws.{order-row}
 use Rattle.schedule.specs.Safety.{order-safe}
 use Rattle.schedule.specs.Finer.{finer, cap-finer, work-finer, carry-work-finer, interference-scale, proper-finer}

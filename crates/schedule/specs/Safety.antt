@@ -12,14 +12,14 @@ use lib.ListN.{length, take}
 use borrow.Author.Tests.{eqb-true, eqb-false}
 use Rattle.rows.specs.BoolLaws.{either}
 use Rattle.rows.specs.Numbers.{done}
-use Rattle.rows.specs.Sums.{on}
+use Rattle.rows.specs.Sums.{times, on}
 use Rattle.rows.specs.Table.{table, rowCount, tableFault}
 use Rattle.rows.specs.TableLaws.{Ranged, Valid, passed-valid}
 use Rattle.rows.specs.declared.table.Row.{Row}
 use Rattle.test.specs.Test.{passes}
 use Rattle.test.specs.TestLaws.{passes-antitone}
 use Rattle.search.specs.Search.{rowsBelow, free, search}
-use Rattle.search.specs.Demand.{times, Order, among, Passing}
+use Rattle.search.specs.Demand.{Order, among, Passing}
 use Rattle.search.specs.OrderLaws.{ledger, placing-distinct, placing-passing}
 use Rattle.search.specs.DemandLaws.{search-truth}
 use Rattle.search.specs.Answers.{testOf, foundOf, placedOf}

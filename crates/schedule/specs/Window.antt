@@ -8,6 +8,7 @@ use mathlib.Core.Bool.{Bool, true, false, _&&_}
 use native.Mathlib.Omega.{arith}
 use native.Mathlib.Nat.{le-refl, le-trans, add-le-add, le-of-eq, add-suc}
 use borrow.Author.Tests.{leb-true, le-leb}
+use Rattle.rows.specs.NumberLaws.{le-or-lt}
 use Rattle.rows.specs.Sums.{on, sum, count}
 use Rattle.rows.specs.BoolLaws.{either, not-both}
 use Rattle.rows.specs.SumLaws.{on-le, on-mono, sum-mono, sum-add, sum-zero, sum-scale, count-le}
@@ -18,7 +19,7 @@ use Rattle.test.specs.Test.{plainFrom, extraFrom, interference, passes}
 use Rattle.test.specs.TestLaws.{passes-iff}
 use Rattle.schedule.specs.Schedule.{Proper, Enough}
 use Rattle.schedule.specs.Lives.{Life, served, due, Meets}
-use Rattle.schedule.specs.MoreSums.{le-or-lt, sum-split, sum-swap, top-choice, count-reach}
+use Rattle.schedule.specs.MoreSums.{sum-split, sum-swap, top-choice, count-reach}
 use Rattle.schedule.specs.WorkBounds.{served-mono, plain-bound, carry-bound}
 use Rattle.schedule.specs.CarryIn.{Driven, acts, busy, start, Start, start-is, CarryIn, carry-in-few}
 

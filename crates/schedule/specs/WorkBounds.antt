@@ -7,13 +7,14 @@ use mathlib.Core.Logic.{⊎-elim}
 use mathlib.Core.Bool.{true, false}
 use native.Mathlib.Omega.{arith}
 use native.Mathlib.Nat.{le-refl, le-trans, div-mul-le-self, lt-div-mul-add}
+use Rattle.rows.specs.NumberLaws.{le-or-lt}
 use Rattle.rows.specs.BoolLaws.{either}
 use Rattle.rows.specs.SumLaws.{on-le}
 use Rattle.rows.specs.declared.table.Row.{Row}
 use Rattle.workload.specs.Workload.{work}
 use Rattle.schedule.specs.Schedule.{Proper}
 use Rattle.schedule.specs.Lives.{Life, served, due, LifeOf, Meets}
-use Rattle.schedule.specs.MoreSums.{le-or-lt, sum-prefix, sum-rise, spaced-far, spaced-mono, spaced-least, first-after}
+use Rattle.schedule.specs.MoreSums.{sum-prefix, sum-rise, spaced-far, spaced-mono, spaced-least, first-after}
 
 pub served-mono : (h : Life) (x y : ℕ) → x ≤ y → served h x ≤ served h y
 served-mono h x y l = sum-prefix _ x y l

@@ -5,16 +5,10 @@ use mathlib.Core.Path.{_≡_}
 use mathlib.Core.Logic.{_↔_}
 use mathlib.Core.Bool.{Bool, true, false}
 use mathlib.Core.List.{List, [], _∷_}
-use lib.Dec.{eqb}
 use lib.ListN.{length, take, getD}
-use Rattle.rows.specs.Sums.{on, count}
+use Rattle.rows.specs.Sums.{on, count, times}
 use Rattle.rows.specs.Sets.{_⊆_, without}
 use Rattle.search.specs.Search.{elem, free}
-
--- how often row i stands in the list
-abbrev pub times : ℕ → List ℕ → ℕ
-times i [] = 0
-times i (x ∷ xs) = on (eqb i x) 1 + times i xs
 
 -- an order: each row of dom stands in it once, and nothing else does
 abbrev pub Order : (ℕ → Bool) → List ℕ → Type 0

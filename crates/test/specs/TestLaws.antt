@@ -9,13 +9,14 @@ use native.Mathlib.Omega.{arith}
 use native.Mathlib.Nat.{le-trans, le-refl, add-le-add, mul-le-mul-right, mul-le-mul-left, div-lt-iff-lt-mul, div-le-self}
 use lib.Dec.{leb}
 use borrow.Author.Tests.{leb-true, le-leb}
+use Rattle.rows.specs.NumberLaws.{div-mono}
 use Rattle.rows.specs.Sums.{on, count}
 use Rattle.rows.specs.SumLaws.{on-mono, on-ext, on-le, sum-mono, sum-ext, sum-add, sum-scale, count-le}
 use Rattle.rows.specs.Sets.{_⊆_}
 use Rattle.rows.specs.declared.table.Row.{Row}
 use Rattle.rows.specs.TableLaws.{Ranged}
 use Rattle.workload.specs.Workload.{plain, extra, cap}
-use Rattle.workload.specs.WorkloadLaws.{div-mono, plain-cap, extra-cap, plain-extra, carry-cap, cap-fits}
+use Rattle.workload.specs.WorkloadLaws.{plain-cap, extra-cap, plain-extra, carry-cap, cap-fits}
 use Rattle.test.specs.Test.{plainFrom, extraFrom, interference, used, passes}
 use Rattle.test.specs.TopLaws.{top-mono, top-more, top-sum, top-ext}
 

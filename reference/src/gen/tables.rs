@@ -4,7 +4,7 @@
 use super::rng::Rng;
 use super::{checked, Size};
 use crate::search::audsley;
-use crate::table::{Lent, MOST_CORES, MOST_TICKS};
+use crate::table::{Lent, Table, MOST_CORES, MOST_TICKS};
 
 const MILLION: u64 = 1_000_000;
 
@@ -159,16 +159,16 @@ fn scaled(lent: &Lent, thousandths: u64) -> Lent {
     scaled
 }
 
-fn placed(lent: &Lent) -> bool {
-    audsley(&checked(lent)).group.is_empty()
+fn placed(table: &Table) -> bool {
+    audsley(table).group.is_empty()
 }
 
 /// The last scale of C, in thousandths, at which a table is accepted, as halving finds it.
-fn last_scale(lent: &Lent, accepted: impl Fn(&Lent) -> bool) -> u64 {
+fn last_scale(lent: &Lent, accepted: impl Fn(&Table) -> bool) -> u64 {
     let (mut below, mut above) = (1, 5000);
     while above - below > 1 {
         let middle = (below + above) / 2;
-        if accepted(&scaled(lent, middle)) {
+        if accepted(&checked(&scaled(lent, middle))) {
             below = middle;
         } else {
             above = middle;
@@ -189,11 +189,10 @@ fn border(rng: &Rng, size: Size) -> Lent {
     scaled(&lent, rng.pick(&[last, last + 1]))
 }
 
-/// A realistic table, C scaled until the next scale is no longer accepted.
-pub fn border_of(rng: &Rng, size: Size, accepted: impl Fn(&Lent) -> bool) -> Lent {
+/// A realistic table, as heavy as is accepted.
+pub fn heaviest(rng: &Rng, size: Size, accepted: impl Fn(&Table) -> bool) -> Lent {
     let lent = realistic_for_border(rng, size);
-    let last = last_scale(&lent, accepted);
-    scaled(&lent, last)
+    scaled(&lent, last_scale(&lent, accepted))
 }
 
 /// k of DkC, near enough to find rows whose keys are almost equal.

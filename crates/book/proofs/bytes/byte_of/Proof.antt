@@ -1,0 +1,22 @@
+-- A shift by 8 j bits divides by 256 ^ j, and the remainder of 256 is the byte.
+-- So the shifted word's lowest byte is byte j. Assumes nothing.
+use mathlib.Core.Path.{refl}
+use Rattle.book.specs.ByteLaws.{pow-bytes}
+use borrow.Author.Needs.{needs}
+use Rattle.book.proofs.bytes.byte_of.Statement.{statement}
+use Rattle.book.proofs.bytes.byte_of.Tie as tie
+
+mul-result : tie.Need-mul-result
+mul-result c = search needs
+
+shr-result : tie.Need-shr-result
+shr-result c = search needs
+
+cast-result : tie.Need-cast-result
+cast-result c = search needs
+
+returns : tie.Need-returns
+returns c = rw pow-bytes refl
+
+pub byte-of-spec : {M : Type 1} → statement M
+byte-of-spec = tie.close (tie.spec mul-result shr-result cast-result returns)

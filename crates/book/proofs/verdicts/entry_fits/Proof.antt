@@ -1,0 +1,23 @@
+-- Of the first p entries each is a row below p that was not seen, and the others are 255.
+-- Each return rewrites the definition with the tests that led there. Assumes nothing.
+use mathlib.Core.Path.{refl, ap}
+use mathlib.Core.Bool.{not}
+use borrow.Author.Tests.{lt-ltb, le-ltb}
+use borrow.Author.Needs.{needs}
+use Rattle.book.proofs.verdicts.entry_fits.Statement.{statement}
+use Rattle.book.proofs.verdicts.entry_fits.Tie as tie
+
+has-requires : tie.Need-has-requires
+has-requires c κs = search needs
+
+returns : tie.Need-returns
+returns c = rw (lt-ltb _ _ (c .before .before .if1 .taken), lt-ltb _ _ (c .before .if2 .taken)) (ap not (c .has .ensures))
+
+returns-2 : tie.Need-returns-2
+returns-2 c = rw (lt-ltb _ _ (c .before .if1 .taken), le-ltb _ _ (c .if2 .left)) refl
+
+returns-3 : tie.Need-returns-3
+returns-3 c = rw (le-ltb _ _ (c .if1 .left)) refl
+
+pub entry-fits-spec : {M : Type 1} → statement M
+entry-fits-spec = tie.close (tie.spec has-requires returns returns-2 returns-3)

@@ -1,0 +1,89 @@
+-- The loop's invariant: every entry before i fits, and the rows seen are those among the first i entries.
+-- An entry that does not fit ends the loop, and the definition fails there. Assumes nothing.
+use Prim.Native.Nat.{_-_, _≤_}
+use mathlib.Core.Path.{_≡_, refl, sym, _∙_}
+use mathlib.Core.Bool.{true}
+use native.Mathlib.Omega.{arith}
+use borrow.Author.Tests.{not-true, not-false}
+use Rattle.rows.specs.Sets.{setOf}
+use Rattle.book.specs.Bytes.{all}
+use Rattle.book.specs.ByteLaws.{all-fails, all-more}
+use Rattle.book.specs.Form.{among, entryFits, orderFits}
+use Rattle.book.specs.FormLaws.{seen-none, seen-more, entry-seen}
+use borrow.Author.Needs.{needs}
+use Rattle.book.proofs.verdicts.order_fits.Statement.{statement}
+use Rattle.book.proofs.verdicts.order_fits.Tie as tie
+
+abbrev Inv-loop : tie.InvT-loop
+Inv-loop p order seen₀ i₀ seen i = (i ≤ 96) × (all i (entryFits p order) ≡ true) × (seen ≡ setOf (among order i))
+
+abbrev μ-loop : tie.MeasureT-loop
+μ-loop p order seen₀ i₀ seen i = 96 - i
+
+loop-holds : tie.Need-loop-holds Inv-loop μ-loop
+loop-holds c = (omega arith, refl, seen-none (c .args .t1))
+
+array-read-row : tie.Need-array-read-row Inv-loop μ-loop
+array-read-row c = search needs
+
+cast-row : tie.Need-cast-row Inv-loop μ-loop
+cast-row c = search needs
+
+entry-fits-requires : tie.Need-entry-fits-requires Inv-loop μ-loop
+entry-fits-requires c κs = search needs
+
+-- an entry fits by the rows seen as it fits by the definition
+entry : (c : tie.After-entry-fits Inv-loop μ-loop)
+    → c .entry-fits .result ≡ entryFits (c .before .before .before .args .p) (c .before .before .before .args .t1) (c .before .before .loop .i)
+entry c =
+    let a = c .before .before .before .args in
+    let l = c .before .before .loop in
+    c .entry-fits .ensures ∙ rw (l .inv .2) (entry-seen (a .t1) (a .p) (l .i) (omega arith))
+
+returns : tie.Need-returns Inv-loop μ-loop
+unfolding orderFits
+returns c =
+    let a = c .before .before .before .before .args in
+    let l = c .before .before .before .loop in
+    sym (all-fails 96 (entryFits (a .p) (a .t1)) (l .i) (omega arith) (sym (entry (c .before)) ∙ not-true _ (c .if1 .taken)))
+
+with-requires : tie.Need-with-requires Inv-loop μ-loop
+with-requires c κs = search needs
+
+add-i : tie.Need-add-i Inv-loop μ-loop
+add-i c = search needs
+
+loop-less : tie.Need-loop-less Inv-loop μ-loop
+loop-less c = search needs
+
+loop-again : tie.Need-loop-again Inv-loop μ-loop
+loop-again c =
+    let a = c .before .before .before .before .before .args in
+    let l = c .before .before .before .before .loop in (
+      omega arith,
+      all-more (l .i) (entryFits (a .p) (a .t1)) (l .inv .1) (sym (entry (c .before .before)) ∙ not-false _ (c .before .if1 .left)),
+      c .with .ensures ∙ rw (l .inv .2) (seen-more (a .t1) (l .i)),
+    )
+
+returns-2 : tie.Need-returns-2 Inv-loop μ-loop
+unfolding orderFits
+returns-2 c =
+    let e : c .before .loop .i ≡ 96 = omega arith in
+    sym (rw e at (c .before .loop .inv .1))
+
+pub order-fits-spec : {M : Type 1} → statement M
+order-fits-spec =
+    tie.close
+    (tie.spec
+    Inv-loop
+    μ-loop
+    loop-holds
+    array-read-row
+    cast-row
+    entry-fits-requires
+    returns
+    with-requires
+    add-i
+    loop-less
+    loop-again
+    returns-2)

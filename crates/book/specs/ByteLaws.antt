@@ -1,0 +1,159 @@
+-- Laws of runs, of tests of all numbers, of the sum and the check, and of bytes, in this order.
+-- Assumes nothing.
+use Prim.Native.Nat.{ℕ, zero, suc, _+_, _-_, _*_, _/_, _%_, _^_, _≤_, _<_}
+use mathlib.Core.Path.{_≡_, refl, sym, ap, ap₂, _∙_}
+use mathlib.Core.Logic.{⊎-elim}
+use mathlib.Core.Bool.{Bool, true, false}
+use mathlib.Core.List.{List}
+use native.Mathlib.Omega.{arith}
+use native.Mathlib.Nat.{le-refl, add-zero, mod-eq-of-lt, div-one, zero-div, div-lt-iff-lt-mul, pow-suc, mul-comm, zero-lt-suc, eq-or-lt-of-le, le-of-suc-le-suc, div-div-eq-div-mul, mul-assoc, mul-add-mod-self-right, zero-add, suc-add}
+use native.Mathlib.Numerals.{add-one}
+use borrow.Author.Tests.{lt-ltb, le-ltb}
+use lib.ListN.{length, getD}
+use lib.Seq.{ext-getD}
+use lib.Arith.{digits-mod, digits-div}
+use lib.Pow.{pow-add}
+use Rattle.rows.specs.BoolLaws.{and-in, and-left, and-right}
+use Rattle.book.specs.Bytes.{byte, big, little, sum16, checkOf, run, all}
+
+pub run-length : (i n : ℕ) (f : ℕ → ℕ) → length (run i n f) ≡ n
+unfolding run
+run-length i zero f = refl
+run-length i (suc n) f = ap suc (run-length (suc i) n f)
+
+pub run-at : (i n : ℕ) (f : ℕ → ℕ) (j : ℕ) → j < n → getD (run i n f) j 0 ≡ f (i + j)
+unfolding run
+run-at i zero f j h = absurd (omega arith)
+run-at i (suc n) f zero h = ap f (sym (add-zero i))
+run-at i (suc n) f (suc j) h = let e : suc i + j ≡ i + suc j = omega arith in run-at (suc i) n f j (omega arith) ∙ ap f e
+
+-- a run is the list that agrees with it
+pub run-is : (i n : ℕ) (f : ℕ → ℕ) (l : List ℕ) → length l ≡ n → ((j : ℕ) → j < n → f (i + j) ≡ getD l j 0) → run i n f ≡ l
+run-is i n f l e h =
+    ext-getD 0 (run i n f) l (run-length i n f ∙ sym e)
+    (λ j k. let k′ : j < n = omega (arith, run-length i n f) in run-at i n f j k′ ∙ h j k′)
+
+pub all-at : (n : ℕ) (p : ℕ → Bool) → all n p ≡ true → (i : ℕ) → i < n → p i ≡ true
+all-at zero p h i l = absurd (omega arith)
+all-at (suc n) p h i l =
+    ⊎-elim (λ (e : i ≡ n). rw e (and-right (all n p) (p n) h))
+    (λ (k : i < n). all-at n p (and-left (all n p) (p n) h) i k)
+    (eq-or-lt-of-le (le-of-suc-le-suc l))
+
+pub all-make : (n : ℕ) (p : ℕ → Bool) → ((i : ℕ) → i < n → p i ≡ true) → all n p ≡ true
+all-make zero p h = refl
+all-make (suc n) p h = and-in (all n p) (p n) (all-make n p (λ i l. h i (omega arith))) (h n (le-refl (suc n)))
+
+pub sum16-ext : (c : ℕ) (f g : ℕ → ℕ) → ((p : ℕ) → p < 2 * c → f p ≡ g p) → sum16 c f ≡ sum16 c g
+unfolding sum16
+sum16-ext zero f g h = refl
+sum16-ext (suc c) f g h =
+    rw (sum16-ext c f g (λ p l. h p (omega arith)), h (2 * c) (omega arith), h (2 * c + 1) (omega arith)) refl
+
+pub all-fails : (n : ℕ) (p : ℕ → Bool) (i : ℕ) → i < n → p i ≡ false → all n p ≡ false
+all-fails n p i l h = go (all n p) refl
+  where
+    go : (b : Bool) → all n p ≡ b → b ≡ false
+    go true e = sym (all-at n p e i l) ∙ h
+    go false e = refl
+
+pub all-more : (n : ℕ) (p : ℕ → Bool) → all n p ≡ true → p n ≡ true → all (n + 1) p ≡ true
+all-more n p h l = rw (add-one n) (and-in (all n p) (p n) h l)
+
+-- one more word, without and with a carry
+pub sum16-less : (f : ℕ → ℕ) (i s r : ℕ) → s ≡ sum16 i f → r ≡ s + (f (2 * i) * 256 + f (2 * i + 1)) → r < 65536 → r ≡ sum16 (i + 1) f
+unfolding sum16
+sum16-less f i s r h e l = rw (add-one i, ← h, ← e, lt-ltb r 65536 l) refl
+
+pub sum16-more : (f : ℕ → ℕ) (i s t r : ℕ) → s ≡ sum16 i f → t ≡ s + (f (2 * i) * 256 + f (2 * i + 1)) → 65536 ≤ t
+    → r ≡ t - 65536 + 1 → r ≡ sum16 (i + 1) f
+unfolding sum16
+sum16-more f i s t r h e l k = rw (add-one i, ← h, ← e, le-ltb t 65536 l) k
+
+pub check-ext : (f g : ℕ → ℕ) → ((p : ℕ) → p < 510 → f p ≡ g p) → checkOf f ≡ checkOf g
+unfolding checkOf
+check-ext f g h = ap (λ (s : ℕ). 0xFFFF - s) (sum16-ext 255 f g h)
+
+pub check-fits : (f : ℕ → ℕ) → checkOf f < 65536
+unfolding checkOf
+check-fits f = go (sum16 255 f)
+  where
+    go : (s : ℕ) → 0xFFFF - s < 65536
+    go s = omega arith
+
+pub little-ext : (k : ℕ) (f g : ℕ → ℕ) → ((j : ℕ) → j < k → f j ≡ g j) → little k f ≡ little k g
+little-ext zero f g h = refl
+little-ext (suc k) f g h = rw (little-ext k (λ j. f (suc j)) (λ j. g (suc j)) (λ j l. h (suc j) (omega arith)), h 0 (omega arith)) refl
+
+byte-zero : (v : ℕ) → byte 0 v ≡ v % 256
+byte-zero v = ap (λ (x : ℕ). x % 256) (div-one v)
+
+byte-suc : (k v : ℕ) → byte (suc k) v ≡ byte k (v / 256)
+byte-suc k v = rw (pow-suc 256 k, mul-comm (256 ^ k) 256, ← div-div-eq-div-mul v 256 (256 ^ k)) refl
+
+pub little-byte : (k v : ℕ) → v < 256 ^ k → little k (λ j. byte j v) ≡ v
+little-byte zero v h = omega arith
+little-byte (suc k) v h =
+    let l : v / 256 < 256 ^ k = div-lt-iff-lt-mul (zero-lt-suc 255) .1 (rw (← pow-suc) h) in
+    let e = little-ext k (λ j. byte (suc j) v) (λ j. byte j (v / 256)) (λ j _. byte-suc j v) in
+    omega (arith, e, little-byte k (v / 256) l, byte-zero v)
+
+pub byte-little : (k : ℕ) (f : ℕ → ℕ) → ((j : ℕ) → f j < 256) → (i : ℕ) → i < k → byte i (little k f) ≡ f i
+byte-little zero f h i l = absurd (omega arith)
+byte-little (suc k) f h zero l = byte-zero (little (suc k) f) ∙ digits-mod (little k (λ j. f (suc j))) (h 0)
+byte-little (suc k) f h (suc i) l =
+    byte-suc i (little (suc k) f) ∙ ap (byte i) (digits-div (little k (λ j. f (suc j))) (h 0))
+    ∙ byte-little k (λ j. f (suc j)) (λ j. h (suc j)) i (omega arith)
+
+pub byte-big : (f : ℕ → ℕ) → ((j : ℕ) → f j < 256) → (t : ℕ) → t < 4 → byte (3 - t) (big 4 f) ≡ f t
+byte-big f h zero l = omega (arith, h 0, h 1, h 2, h 3)
+byte-big f h (suc zero) l = omega (arith, h 0, h 1, h 2, h 3)
+byte-big f h (suc (suc zero)) l = omega (arith, h 0, h 1, h 2, h 3)
+byte-big f h (suc (suc (suc zero))) l = omega (arith, h 0, h 1, h 2, h 3)
+byte-big f h (suc (suc (suc (suc t)))) l = absurd (omega arith)
+
+pub byte-none : (k : ℕ) → byte k 0 ≡ 0
+byte-none k = rw zero-div refl
+
+pub big-two : (v : ℕ) → v < 65536 → big 2 (λ t. byte (1 - t) v) ≡ v
+big-two v h = omega arith
+
+pub big-four : (v : ℕ) → v < 2 ^ 32 → big 4 (λ t. byte (3 - t) v) ≡ v
+big-four v h =
+    let a : v / 16777216 < 256 = omega arith in
+    let b : v / 65536 / 256 ≡ v / 16777216 = div-div-eq-div-mul v 65536 256 in
+    let c : v / 256 / 256 ≡ v / 65536 = div-div-eq-div-mul v 256 256 in
+    let d : v / 16777216 % 256 ≡ v / 16777216 = mod-eq-of-lt a in
+    omega arith
+
+-- ---- bytes of words side by side, and by shifts
+
+pub pow-bytes : (k : ℕ) → 256 ^ k ≡ 2 ^ (8 * k)
+pow-bytes zero = refl
+pow-bytes (suc k) =
+    let e : 8 * suc k ≡ 8 * k + 8 = omega arith in
+    pow-suc 256 k ∙ ap (λ (x : ℕ). x * 256) (pow-bytes k) ∙ sym (pow-add 2 (8 * k) 8) ∙ ap (λ (x : ℕ). 2 ^ x) (sym e)
+
+joined : (k hi lo : ℕ) → hi * 256 ^ suc k + lo ≡ hi * 256 ^ k * 256 + lo
+joined k hi lo = rw (pow-suc 256 k, ← mul-assoc) refl
+
+shifted : (k hi lo : ℕ) → (hi * 256 ^ suc k + lo) / 256 ≡ hi * 256 ^ k + lo / 256
+shifted k hi lo = rw (joined k hi lo) (omega arith)
+
+pub byte-low : (k hi lo j : ℕ) → j < k → byte j (hi * 256 ^ k + lo) ≡ byte j lo
+byte-low zero hi lo j h = absurd (omega arith)
+byte-low (suc k) hi lo zero h =
+    byte-zero (hi * 256 ^ suc k + lo) ∙ rw (joined k hi lo) (mul-add-mod-self-right (hi * 256 ^ k) 256 lo) ∙ sym (byte-zero lo)
+byte-low (suc k) hi lo (suc j) h =
+    byte-suc j (hi * 256 ^ suc k + lo) ∙ ap (byte j) (shifted k hi lo) ∙ byte-low k hi (lo / 256) j (omega arith) ∙ sym (byte-suc j lo)
+
+pub byte-high : (k hi lo j : ℕ) → lo < 256 ^ k → byte (k + j) (hi * 256 ^ k + lo) ≡ byte j hi
+byte-high zero hi lo j h = let e : hi * 1 + lo ≡ hi = omega arith in ap₂ byte (zero-add j) e
+byte-high (suc k) hi lo j h =
+    ap (λ (i : ℕ). byte i (hi * 256 ^ suc k + lo)) (suc-add k j) ∙ byte-suc (k + j) (hi * 256 ^ suc k + lo) ∙ ap (byte (k + j)) (shifted k hi lo)
+    ∙ byte-high k hi (lo / 256) j (div-lt-iff-lt-mul (zero-lt-suc 255) .1 (rw (← pow-suc) h))
+
+-- bytes from lo on and bytes from hi on make two words side by side
+pub little-lt : (k : ℕ) (f : ℕ → ℕ) → ((j : ℕ) → f j < 256) → little k f < 256 ^ k
+little-lt zero f h = zero-lt-suc 0
+little-lt (suc k) f h = rw (pow-suc 256 k) (omega (arith, little-lt k (λ j. f (suc j)) (λ j. h (suc j)), h 0))
