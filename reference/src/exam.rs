@@ -8,6 +8,7 @@ pub use wire::{Reader, MOST_LIST_BYTES, MOST_LIST_WORDS};
 
 use crate::audit::{check_group, check_order};
 use crate::book::{read, write, Verdict};
+use crate::comparison::Asked;
 use crate::policy::propose;
 use crate::search::{search, step, State};
 use crate::table::{number, Lent, Mask};
@@ -160,6 +161,22 @@ impl Case {
     }
 }
 
+impl Asked for Case {
+    fn encode(&self) -> Vec<u8> {
+        Case::encode(self)
+    }
+
+    fn answer(&self) -> Answer {
+        Case::answer(self)
+    }
+
+    fn difference(&self, expected: &Answer, answered: &[u8]) -> String {
+        let [expected_text, answered_text] =
+            [&expected.to_bytes(), answered].map(|bytes| expected.text_of(bytes));
+        format!("{self}\n  expected {expected_text}\n  answered {answered_text}")
+    }
+}
+
 /// Whether a number refuses a call before the work.
 pub fn refuses_before_work(answered: u64) -> bool {
     let work = [
@@ -173,7 +190,7 @@ pub fn refuses_before_work(answered: u64) -> bool {
 }
 
 /// Bytes in hexadecimal, a run of equal ones as byte and count.
-fn runs(bytes: &[u8]) -> String {
+pub fn runs(bytes: &[u8]) -> String {
     let run = |run: &[u8]| match run.len() {
         1 => format!("{:02x}", run[0]),
         count => format!("{:02x}*{count}", run[0]),

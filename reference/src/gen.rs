@@ -1,11 +1,14 @@
 //! Cases of every kind, the same for the same seed: the K cases, then a mix of
 //! full ranges, malformed inputs, edges and realistic tables.
 
+mod books;
 mod faults;
 pub(crate) mod rng;
 mod steps;
 mod systematic;
 pub(crate) mod tables;
+
+pub use books::{host_cases, Books};
 
 use crate::book::{book_length, book_of, Verdict};
 use crate::exam::{refuses_before_work, Case};

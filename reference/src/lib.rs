@@ -2,20 +2,26 @@
 //! plainly as possible, with cases and a comparison for the program `exam`.
 //!
 //! `compare EXAM_PROGRAM` runs generated cases through the program and compares
-//! every answer whole; `cases` writes cases and answers to files; `stand_in`
-//! answers in the program's place; `simulate` runs accepted tables in random
-//! legal schedules and counts late jobs.
+//! every answer whole; `compare_host` and `compare_listing` do so with the host
+//! entry and with the listing program; `cases` writes cases and answers to
+//! files; `stand_in` answers in a program's place; `simulate` runs accepted
+//! tables in random legal schedules and counts late jobs; `example_books`
+//! writes the books in `examples/`.
 #![forbid(unsafe_code)]
 
 pub mod audit;
 pub mod book;
+pub mod comparison;
 pub mod exam;
+pub mod examine;
+pub mod examples;
 pub mod gen;
 pub mod host;
 pub mod known;
 pub mod listing;
 pub mod options;
 pub mod policy;
+pub mod program;
 pub mod search;
 pub mod simulate;
 pub mod table;

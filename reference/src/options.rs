@@ -1,6 +1,7 @@
 //! Command-line options of the programs.
 
 use crate::exam::KINDS;
+use crate::program::Program;
 
 /// `PATH... [--kinds 1,2,3] [--inputs N] [--seed S] [-- ARGUMENT...]`
 #[derive(Clone, Debug, PartialEq, Eq)]
@@ -50,6 +51,33 @@ impl Options {
         } else {
             Err(format!("{paths} paths needed, {} given", options.paths.len()))
         }
+    }
+}
+
+/// `[--inputs N] [--seed S] -- PROGRAM [ARGUMENT...]`
+#[derive(Clone, Debug, PartialEq, Eq)]
+pub struct ProgramOptions {
+    pub inputs: usize,
+    pub seed: u64,
+    pub program: Program,
+}
+
+impl ProgramOptions {
+    pub fn parse(arguments: impl Iterator<Item = String>) -> Result<ProgramOptions, String> {
+        let mut arguments = arguments.skip(1);
+        let (mut inputs, mut seed) = (1000, 1);
+        loop {
+            let name = arguments.next().ok_or("-- and a program are needed")?;
+            match name.as_str() {
+                "--inputs" => inputs = number(&name, arguments.next())?,
+                "--seed" => seed = number(&name, arguments.next())?,
+                "--" => break,
+                _ => return Err(format!("{name} is no option")),
+            }
+        }
+        let path = arguments.next().ok_or("a program is needed")?;
+        let program = Program { path, arguments: arguments.collect() };
+        Ok(ProgramOptions { inputs, seed, program })
     }
 }
 

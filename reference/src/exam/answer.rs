@@ -4,6 +4,7 @@ use super::runs;
 use super::wire::Writer;
 use crate::audit::{GroupAnswer, OrderAnswer};
 use crate::book::{ReadAnswer, WriteAnswer};
+use crate::host::HostAnswer;
 use crate::policy::PolicyAnswer;
 use crate::search::{SearchAnswer, StepAnswer};
 use crate::test::TestAnswer;
@@ -162,5 +163,11 @@ impl From<ReadAnswer> for Answer {
             .with("group high", answer.group.high)
             .with_bytes("order", &answer.order)
             .with_part("output words", Part::Words(answer.output))
+    }
+}
+
+impl From<HostAnswer> for Answer {
+    fn from(answer: HostAnswer) -> Answer {
+        Answer::new(answer.number).with_bytes("output", &answer.output)
     }
 }

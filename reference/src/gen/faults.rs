@@ -306,7 +306,7 @@ fn damage_book_length(rng: &Rng, book: &mut Vec<u8>) {
 }
 
 /// One block more, empty but with its right number and check.
-fn append_block(book: &mut Vec<u8>) {
+pub fn append_block(book: &mut Vec<u8>) {
     let number = book.len() / BLOCK;
     let start = BLOCK * number;
     book.resize(start + BLOCK, 0);

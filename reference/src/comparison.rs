@@ -1,0 +1,96 @@
+//! Compares the answers of a program, case by case, with those expected.
+
+use crate::exam::{refuses_before_work, Answer};
+use crate::program::Program;
+use std::io;
+use std::process::ExitCode;
+
+const BATCH: usize = 4000;
+const SHOWN: usize = 3;
+
+/// A case for a program that answers many of them in one run.
+pub trait Asked {
+    fn encode(&self) -> Vec<u8>;
+
+    fn answer(&self) -> Answer;
+
+    /// The case and both answers, for a reader.
+    fn difference(&self, expected: &Answer, answered: &[u8]) -> String;
+}
+
+/// What has been seen.
+#[derive(Clone, Copy, Debug, Default, PartialEq, Eq)]
+pub struct Tally {
+    pub inputs: usize,
+    pub refused: usize,
+    pub differences: usize,
+}
+
+impl Tally {
+    pub fn count(&mut self, refused: bool, difference: Option<String>) {
+        self.inputs += 1;
+        self.refused += usize::from(refused);
+        if let Some(text) = difference {
+            self.differ(&text);
+        }
+    }
+
+    fn differ(&mut self, text: &str) {
+        self.differences += 1;
+        if self.differences <= SHOWN {
+            println!("difference in {text}");
+        }
+    }
+
+    fn compare(&mut self, case: &impl Asked, expected: &Answer, answered: &[u8]) {
+        let differs = answered != expected.to_bytes();
+        let difference = differs.then(|| case.difference(expected, answered));
+        self.count(refuses_before_work(expected.number()), difference);
+    }
+
+    fn compare_batch(&mut self, program: &Program, cases: &[impl Asked]) -> io::Result<()> {
+        let run = program.start(cases.iter().flat_map(Asked::encode).collect())?;
+        let expected: Vec<Answer> = cases.iter().map(Asked::answer).collect();
+        let output = run.output()?;
+        let mut rest = &output[..];
+        for (case, expected) in cases.iter().zip(&expected) {
+            let length = expected.to_bytes().len().min(rest.len());
+            let (answered, behind) = rest.split_at(length);
+            self.compare(case, expected, answered);
+            rest = behind;
+        }
+        if !rest.is_empty() {
+            self.differ(&format!("the length: {} bytes behind the last answer", rest.len()));
+        }
+        Ok(())
+    }
+}
+
+/// Puts the cases to the program, thousands in a run, and compares each answer whole.
+pub fn compare<C: Asked>(
+    program: &Program,
+    mut cases: impl Iterator<Item = C>,
+) -> io::Result<Tally> {
+    let mut tally = Tally::default();
+    loop {
+        let batch: Vec<C> = cases.by_ref().take(BATCH).collect();
+        if batch.is_empty() {
+            return Ok(tally);
+        }
+        tally.compare_batch(program, &batch)?;
+    }
+}
+
+/// Prints what has been seen under a name; the exit status is 1 on any difference.
+pub fn conclude(name: &str, program: &Program, seen: io::Result<Tally>) -> ExitCode {
+    match seen {
+        Ok(Tally { inputs, refused, differences }) => {
+            println!("{name}: {inputs} inputs ({refused} refused), {differences} differences");
+            ExitCode::from(u8::from(differences > 0))
+        }
+        Err(fault) => {
+            eprintln!("{}: {fault}", program.path);
+            ExitCode::FAILURE
+        }
+    }
+}

@@ -1,0 +1,67 @@
+//! The example books: K5, a blocked table, and a made-up gateway.
+
+use crate::book::{book_of, Verdict};
+use crate::known;
+use crate::table::Lent;
+
+pub const GATEWAY_CORES: u32 = 4;
+
+/// A task of the gateway, its times in microseconds.
+pub struct Task {
+    pub name: &'static str,
+    pub row: [u32; 3],
+    pub note: &'static str,
+}
+
+const fn task(name: &'static str, row: [u32; 3]) -> Task {
+    Task { name, row, note: "" }
+}
+
+const fn assumed(name: &'static str, row: [u32; 3]) -> Task {
+    Task { name, row, note: "assumed: C could not be measured" }
+}
+
+/// Its tasks by subject, as a planner lists them; the search finds their levels.
+pub const GATEWAY: [Task; 31] = [
+    task("position reports", [3120, 8000, 20000]),
+    task("door status", [905, 5000, 20000]),
+    task("charge status", [1690, 6500, 50000]),
+    task("battery temperature", [1240, 6500, 50000]),
+    task("passenger counts", [5180, 31000, 100000]),
+    task("fault codes", [7420, 80000, 250000]),
+    assumed("emergency calls", [1800, 5000, 50000]),
+    task("driver messages", [9460, 23000, 150000]),
+    task("route requests", [24500, 55000, 100000]),
+    task("map matching", [8230, 19000, 50000]),
+    task("dispatch orders", [4310, 7500, 40000]),
+    task("order receipts", [2580, 7000, 40000]),
+    task("timetable deviation", [15800, 55000, 100000]),
+    task("arrival forecasts", [42900, 115000, 200000]),
+    task("transfer protection", [19500, 90000, 200000]),
+    task("stop displays", [17200, 95000, 250000]),
+    task("announcements", [8350, 25000, 120000]),
+    task("signal priority requests", [2280, 6000, 25000]),
+    task("depot gates", [3070, 9500, 100000]),
+    task("charge plan", [86000, 300000, 1000000]),
+    task("energy metering", [11400, 95000, 500000]),
+    task("ticket data", [27300, 130000, 500000]),
+    task("radio frames in", [880, 2500, 5000]),
+    task("radio frames out", [760, 2500, 5000]),
+    task("heartbeat", [375, 2500, 10000]),
+    task("clock correction", [240, 2000, 10000]),
+    task("watchdog", [180, 2000, 10000]),
+    task("message journal", [7380, 15000, 50000]),
+    task("key renewal", [64000, 300000, 5000000]),
+    task("log upload", [190000, 660000, 4000000]),
+    task("software download", [262000, 1000000, 10000000]),
+];
+
+pub fn gateway() -> Lent {
+    Lent { words: GATEWAY.iter().flat_map(|task| task.row).collect(), m: GATEWAY_CORES }
+}
+
+/// The files' names and bytes; no verdict is stored in them, so that there is one to find.
+pub fn books() -> [(&'static str, Vec<u8>); 3] {
+    [("k5.book", known::k(5)), ("blocked.book", known::k(6)), ("gateway.book", gateway())]
+        .map(|(name, lent)| (name, book_of(&lent, &Verdict::none())))
+}
