@@ -6,12 +6,13 @@ use mathlib.Core.Logic.{⊎-elim}
 use mathlib.Core.Bool.{Bool, true, false, not}
 use mathlib.Core.List.{List, _++_}
 use native.Mathlib.Omega.{arith}
-use native.Mathlib.Nat.{le-refl, zero-add, mod-lt, div-add-mod, div-mul-le-self, le-div-iff-mul-le, suc-mul, mul-le-mul-left, le-trans, zero-lt-suc, div-zero}
+use native.Mathlib.Nat.{zero-add, mod-lt, div-add-mod, div-mul-le-self, le-div-iff-mul-le, suc-mul, mul-le-mul-left}
 use lib.Dec.{ltb, eqb}
 use lib.ListN.{length, getD}
 use borrow.Author.Tests.{eq-eqb, lt-ltb, le-leb, ltb-true, ltb-false}
 use Rattle.rows.specs.BoolLaws.{either, not-both, and-in}
 use Rattle.rows.specs.Sums.{first}
+use Rattle.rows.specs.NumberLaws.{div-mono}
 use Rattle.rows.specs.SumLaws.{first-is}
 use Rattle.rows.specs.Table.{inRange}
 use Rattle.book.specs.Bytes.{byte, big, little, checkOf, run}
@@ -35,9 +36,6 @@ pub record Legal (e : Edition) (x : Content) : Type 0 where
   pub words : (j : ℕ) → getD (x .table) j 0 < 2 ^ 32
   pub rows : (i : ℕ) → i < x .n → inRange (rowWords e (x .table) i) ≡ true
 
-div-mono : (m : ℕ) {a b : ℕ} → a ≤ b → a / m ≤ b / m
-div-mono zero {a} {b} h = simp div-zero (le-refl 0)
-div-mono (suc m) {a} {b} h = le-div-iff-mul-le (zero-lt-suc m) .1 (le-trans (div-mul-le-self a (suc m)) h)
 
 -- a test that takes none of the numbers below n
 first-none : (p : ℕ → Bool) (n : ℕ) → ((i : ℕ) → i < n → p i ≡ false) → n ≤ first p n 0

@@ -1,4 +1,4 @@
--- Laws of runs, of tests of all numbers, of the sum and the check, and of bytes, in this order.
+-- Laws of runs, of tests of all numbers, of the sum and the check, and of numbers as bytes, in this order.
 -- Assumes nothing.
 use Prim.Native.Nat.{ℕ, zero, suc, _+_, _-_, _*_, _/_, _%_, _^_, _≤_, _<_}
 use mathlib.Core.Path.{_≡_, refl, sym, ap, ap₂, _∙_}
@@ -15,6 +15,8 @@ use lib.Arith.{digits-mod, digits-div}
 use lib.Pow.{pow-add}
 use Rattle.rows.specs.BoolLaws.{and-in, and-left, and-right}
 use Rattle.book.specs.Bytes.{byte, big, little, sum16, checkOf, run, all}
+
+-- ---- runs
 
 pub run-length : (i n : ℕ) (f : ℕ → ℕ) → length (run i n f) ≡ n
 unfolding run
@@ -33,6 +35,8 @@ run-is i n f l e h =
     ext-getD 0 (run i n f) l (run-length i n f ∙ sym e)
     (λ j k. let k′ : j < n = omega (arith, run-length i n f) in run-at i n f j k′ ∙ h j k′)
 
+-- ---- tests of all numbers below n
+
 pub all-at : (n : ℕ) (p : ℕ → Bool) → all n p ≡ true → (i : ℕ) → i < n → p i ≡ true
 all-at zero p h i l = absurd (omega arith)
 all-at (suc n) p h i l =
@@ -44,12 +48,6 @@ pub all-make : (n : ℕ) (p : ℕ → Bool) → ((i : ℕ) → i < n → p i ≡
 all-make zero p h = refl
 all-make (suc n) p h = and-in (all n p) (p n) (all-make n p (λ i l. h i (omega arith))) (h n (le-refl (suc n)))
 
-pub sum16-ext : (c : ℕ) (f g : ℕ → ℕ) → ((p : ℕ) → p < 2 * c → f p ≡ g p) → sum16 c f ≡ sum16 c g
-unfolding sum16
-sum16-ext zero f g h = refl
-sum16-ext (suc c) f g h =
-    rw (sum16-ext c f g (λ p l. h p (omega arith)), h (2 * c) (omega arith), h (2 * c + 1) (omega arith)) refl
-
 pub all-fails : (n : ℕ) (p : ℕ → Bool) (i : ℕ) → i < n → p i ≡ false → all n p ≡ false
 all-fails n p i l h = go (all n p) refl
   where
@@ -59,6 +57,14 @@ all-fails n p i l h = go (all n p) refl
 
 pub all-more : (n : ℕ) (p : ℕ → Bool) → all n p ≡ true → p n ≡ true → all (n + 1) p ≡ true
 all-more n p h l = rw (add-one n) (and-in (all n p) (p n) h l)
+
+-- ---- the sum and the check
+
+pub sum16-ext : (c : ℕ) (f g : ℕ → ℕ) → ((p : ℕ) → p < 2 * c → f p ≡ g p) → sum16 c f ≡ sum16 c g
+unfolding sum16
+sum16-ext zero f g h = refl
+sum16-ext (suc c) f g h =
+    rw (sum16-ext c f g (λ p l. h p (omega arith)), h (2 * c) (omega arith), h (2 * c + 1) (omega arith)) refl
 
 -- one more word, without and with a carry
 pub sum16-less : (f : ℕ → ℕ) (i s r : ℕ) → s ≡ sum16 i f → r ≡ s + (f (2 * i) * 256 + f (2 * i + 1)) → r < 65536 → r ≡ sum16 (i + 1) f
@@ -81,9 +87,15 @@ check-fits f = go (sum16 255 f)
     go : (s : ℕ) → 0xFFFF - s < 65536
     go s = omega arith
 
+-- ---- bytes low byte first
+
 pub little-ext : (k : ℕ) (f g : ℕ → ℕ) → ((j : ℕ) → j < k → f j ≡ g j) → little k f ≡ little k g
 little-ext zero f g h = refl
 little-ext (suc k) f g h = rw (little-ext k (λ j. f (suc j)) (λ j. g (suc j)) (λ j l. h (suc j) (omega arith)), h 0 (omega arith)) refl
+
+pub little-lt : (k : ℕ) (f : ℕ → ℕ) → ((j : ℕ) → f j < 256) → little k f < 256 ^ k
+little-lt zero f h = zero-lt-suc 0
+little-lt (suc k) f h = rw (pow-suc 256 k) (omega (arith, little-lt k (λ j. f (suc j)) (λ j. h (suc j)), h 0))
 
 byte-zero : (v : ℕ) → byte 0 v ≡ v % 256
 byte-zero v = ap (λ (x : ℕ). x % 256) (div-one v)
@@ -105,15 +117,17 @@ byte-little (suc k) f h (suc i) l =
     byte-suc i (little (suc k) f) ∙ ap (byte i) (digits-div (little k (λ j. f (suc j))) (h 0))
     ∙ byte-little k (λ j. f (suc j)) (λ j. h (suc j)) i (omega arith)
 
+pub byte-none : (k : ℕ) → byte k 0 ≡ 0
+byte-none k = rw zero-div refl
+
+-- ---- bytes high byte first
+
 pub byte-big : (f : ℕ → ℕ) → ((j : ℕ) → f j < 256) → (t : ℕ) → t < 4 → byte (3 - t) (big 4 f) ≡ f t
 byte-big f h zero l = omega (arith, h 0, h 1, h 2, h 3)
 byte-big f h (suc zero) l = omega (arith, h 0, h 1, h 2, h 3)
 byte-big f h (suc (suc zero)) l = omega (arith, h 0, h 1, h 2, h 3)
 byte-big f h (suc (suc (suc zero))) l = omega (arith, h 0, h 1, h 2, h 3)
 byte-big f h (suc (suc (suc (suc t)))) l = absurd (omega arith)
-
-pub byte-none : (k : ℕ) → byte k 0 ≡ 0
-byte-none k = rw zero-div refl
 
 pub big-two : (v : ℕ) → v < 65536 → big 2 (λ t. byte (1 - t) v) ≡ v
 big-two v h = omega arith
@@ -152,8 +166,3 @@ byte-high zero hi lo j h = let e : hi * 1 + lo ≡ hi = omega arith in ap₂ byt
 byte-high (suc k) hi lo j h =
     ap (λ (i : ℕ). byte i (hi * 256 ^ suc k + lo)) (suc-add k j) ∙ byte-suc (k + j) (hi * 256 ^ suc k + lo) ∙ ap (byte (k + j)) (shifted k hi lo)
     ∙ byte-high k hi (lo / 256) j (div-lt-iff-lt-mul (zero-lt-suc 255) .1 (rw (← pow-suc) h))
-
--- bytes from lo on and bytes from hi on make two words side by side
-pub little-lt : (k : ℕ) (f : ℕ → ℕ) → ((j : ℕ) → f j < 256) → little k f < 256 ^ k
-little-lt zero f h = zero-lt-suc 0
-little-lt (suc k) f h = rw (pow-suc 256 k) (omega (arith, little-lt k (λ j. f (suc j)) (λ j. h (suc j)), h 0))

@@ -79,8 +79,7 @@ sizeCheck e x b = check (eqb (length b) (512 * blocks e (x .n))) book-length
 unfoldable pub headChecks : Edition → Content → List ℕ → List Check
 headChecks e x b = editionCheck e b ∷ coresCheck (x .m) ∷ countCheck x ∷ sizeCheck e x b ∷ []
 
--- the body: every field and filler, the rows, and room for the words
--- the book is what writing its content gives
+-- the body: every field and filler (the book is what writing its content gives), the rows, and room for the words
 unfoldable pub spelled : Edition → Content → List ℕ → Bool
 spelled e x b = all (length b) (λ i. eqb (getD b i 0) (at e x i))
 

@@ -16,9 +16,10 @@ use Rattle.rows.specs.Sums.{first}
 use Rattle.rows.specs.Table.{inRange, wordsAt, readAt, faulty}
 use Rattle.rows.specs.declared.table.Row.{Row}
 use Rattle.rows.specs.declared.table.RowRead.the-variants.{Fine, Fault}
+use Rattle.rows.specs.Judge.{Check}
 use Rattle.book.specs.ByteLaws.{run-at, run-length}
 use Rattle.book.specs.Fault.{faultOf}
-use Rattle.book.specs.FaultLaws.{Passed, append-passed, judge-told}
+use Rattle.book.specs.FaultLaws.{Passed, append-passed, judge-told, fault-first, fault-next}
 use Rattle.book.specs.Form.{formed}
 use Rattle.book.specs.Layout.{Edition, editionOne, longest, blocks}
 use Rattle.book.specs.Read.{wordAt, verdictOf, content, whole, numbered, checked, eachBlock, spelled, lowestBad, blockChecks, headChecks, bodyChecks, readChecks, refused, taken, readOf, readInto}
@@ -150,6 +151,26 @@ readable b room h =
       rows = leb-true (x .n) (lowestBad editionOne x) (body .1 .0);
       space = leb-true (3 * x .n) room (body .1 .1 .0);
     }
+
+-- the first fault of the three lists, one after the other
+module _ (b : List ℕ) (room : ℕ) where
+  abbrev pub outer : List Check
+  outer = blockChecks b
+
+  abbrev pub head : List Check
+  head = headChecks editionOne (content editionOne b) b
+
+  abbrev pub body : List Check
+  body = bodyChecks editionOne (content editionOne b) b room
+
+  pub outer-fault : (i p : ℕ) → faultOf outer ≡ At i p → faultOf (readChecks editionOne b room) ≡ At i p
+  outer-fault i p h = fault-first outer (head ++ body) i p h
+
+  pub head-fault : (i p : ℕ) → faultOf outer ≡ Clear → faultOf head ≡ At i p → faultOf (readChecks editionOne b room) ≡ At i p
+  head-fault i p o h = fault-next outer (head ++ body) o ∙ fault-first head body i p h
+
+  pub body-fault : faultOf outer ≡ Clear → faultOf head ≡ Clear → faultOf (readChecks editionOne b room) ≡ faultOf body
+  body-fault o h = fault-next outer (head ++ body) o ∙ fault-next head body h
 
 -- the answer and the lent words by the first fault
 module _ (b : List ℕ) where

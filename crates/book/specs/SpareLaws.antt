@@ -1,4 +1,4 @@
--- What code tests for 13: a book whose blocks have their numbers and checks is spelled as its sheet exactly when every spare byte is zero.
+-- What the code tests for 13: a book whose blocks have their numbers and checks is what writing its content gives exactly where every spare byte is zero.
 -- Assumes nothing.
 use Prim.Native.Nat.{ℕ, zero, suc, _+_, _-_, _*_, _/_, _%_, _≤_, _<_}
 use mathlib.Core.Path.{_≡_, refl, sym, ap, _∙_}
@@ -13,7 +13,7 @@ use lib.Dec.{ltb, leb, eqb}
 use lib.ListN.{length, getD, List·getD-eq-default}
 use borrow.Author.Tests.{eqb-true, eq-eqb, lt-ltb, ltb-true, le-ltb, le-leb, leb-true, lt-leb}
 use Rattle.rows.specs.BoolLaws.{either, not-both, and-left, and-right}
-use Rattle.rows.specs.Judge.{check, checkAt}
+use Rattle.rows.specs.Judge.{Check, check, checkAt}
 use Rattle.rows.specs.Numbers.{row-range, short-output, book-field}
 use Rattle.rows.specs.Sets.{word}
 use Rattle.book.specs.Bytes.{byte, big, little, checkOf}
@@ -32,6 +32,9 @@ side a b = go (decLe a b)
     go : Dec (a ≤ b) → (a ≤ b) ⊎ (b < a)
     go (yes l) = inl l
     go (no m) = inr (lt-of-not-le m)
+
+pub not-ltb : (a b : ℕ) → leb b a ≡ not (ltb a b)
+not-ltb a b = ⊎-elim (λ (h : b ≤ a). rw (le-leb b a h, le-ltb a b h) refl) (λ (h : a < b). rw (lt-leb b a h, lt-ltb a b h) refl) (side b a)
 
 module _ (e : Edition) (f : Fit e) (b : List ℕ) (bytes : (i : ℕ) → getD b i 0 < 256) (edition : getD b 2 0 ≡ e .number) where
   -- what is written behind the number of a block is what was read, and zero where nothing is read
@@ -233,8 +236,7 @@ module _ (e : Edition) (f : Fit e) (b : List ℕ) (bytes : (i : ℕ) → getD b 
         (either (spelled e (content e b) b)))
         (either (zeros e (getD b 4 0) b))
 
-pub not-ltb : (a b : ℕ) → leb b a ≡ not (ltb a b)
-not-ltb a b = ⊎-elim (λ (h : b ≤ a). rw (le-leb b a h, le-ltb a b h) refl) (λ (h : a < b). rw (lt-leb b a h, lt-ltb a b h) refl) (side b a)
+-- ---- 13, and the checks of the body
 
 -- of a book whose blocks and head are right, 13 is exactly that the form is wrong or a spare byte is not zero
 pub fields-iff : (b : List ℕ) (n : ℕ) → ((i : ℕ) → getD b i 0 < 256) → Sealed b → Headed b n
@@ -245,11 +247,15 @@ fields-iff b n bytes s h =
     rw (h .count) (ap (λ (t : Bool). formed (getD b 4 0) (verdictOf b) && t) same)
 
 -- the checks of the body, as the code makes them
+abbrev pub madeChecks : List ℕ → ℕ → ℕ → List Check
+madeChecks b n room =
+    let low = lowestBad editionOne (content editionOne b) in
+    check (formed n (verdictOf b) && zeros editionOne n b) book-field
+    ∷ checkAt (leb n low) row-range low
+    ∷ check (leb (3 * n) room) short-output
+    ∷ []
+
 pub body-checks : (b : List ℕ) (n room : ℕ) → ((i : ℕ) → getD b i 0 < 256) → Sealed b → Headed b n
-    → faultOf (bodyChecks editionOne (content editionOne b) b room)
-    ≡ faultOf
-    (check (formed n (verdictOf b) && zeros editionOne n b) book-field
-    ∷ checkAt (leb n (lowestBad editionOne (content editionOne b))) row-range (lowestBad editionOne (content editionOne b))
-    ∷ check (leb (3 * n) room) short-output ∷ [])
+    → faultOf (bodyChecks editionOne (content editionOne b) b room) ≡ faultOf (madeChecks b n room)
 unfolding bodyChecks
 body-checks b n room bytes s h = rw (fields-iff b n bytes s h, content-count editionOne b ∙ sym (h .count)) refl

@@ -1,13 +1,25 @@
 -- The checks are made in the order of the definition's list, 13 by the form and the spare bytes alone.
 -- Each return rewrites the list with the tests that led there. Assumes nothing.
-use mathlib.Core.Path.{refl, sym, ap, _∙_}
+use mathlib.Core.Path.{_≡_, refl, sym, ap, _∙_}
 use native.Mathlib.Omega.{arith}
 use borrow.Author.Tests.{le-leb, lt-leb, not-true, not-false}
-use Rattle.book.specs.SpareLaws.{body-checks}
+use Rattle.book.specs.Fault.{faultOf}
+use Rattle.book.specs.Layout.{editionOne}
+use Rattle.book.specs.Read.{content, bodyChecks}
+use Rattle.book.specs.SpareLaws.{madeChecks, body-checks}
 use Rattle.book.specs.declared.checks.Fault.the-variants.{At}
 use borrow.Author.Needs.{needs}
 use Rattle.book.proofs.checks.body_fault.Statement.{statement}
 use Rattle.book.proofs.checks.body_fault.Tie as tie
+
+-- the list of checks as they are made here
+listed : (c : tie.After-shared-slice-known)
+    → let a = c .before .args in
+    faultOf (bodyChecks editionOne (content editionOne (a .book .now)) (a .book .now) (a .room))
+    ≡ faultOf (madeChecks (a .book .now) (a .n) (a .room))
+listed c =
+    let a = c .before .args in
+    body-checks (a .book .now) (a .n) (a .room) (λ i. omega (arith, c .shared-slice-known .given i)) (c .before .pre .0) (c .before .pre .1)
 
 fields-fit-requires : tie.Need-fields-fit-requires
 fields-fit-requires c κs = search needs
@@ -16,9 +28,7 @@ returns : tie.Need-returns
 returns c =
     let d = c .before .before in
     let fit = sym (c .before .fields-fit .ensures) ∙ not-true _ (c .if1 .taken) in
-    sym
-    (body-checks (d .before .args .book .now) (d .before .args .n) (d .before .args .room) (λ i. omega (arith, d .shared-slice-known .given i)) (d .before .pre .0) (d .before .pre .1)
-    ∙ rw (fit) refl)
+    sym (listed d ∙ rw fit refl)
 
 lowest-bad-requires : tie.Need-lowest-bad-requires
 lowest-bad-requires c κs = search needs
@@ -27,9 +37,7 @@ returns-2 : tie.Need-returns-2
 returns-2 c =
     let d = c .before .before .before .before in
     let fit = sym (c .before .before .before .fields-fit .ensures) ∙ not-false _ (c .before .before .if1 .left) in
-    sym
-    (body-checks (d .before .args .book .now) (d .before .args .n) (d .before .args .room) (λ i. omega (arith, d .shared-slice-known .given i)) (d .before .pre .0) (d .before .pre .1)
-    ∙ rw (fit, lt-leb _ _ (rw (c .before .lowest-bad .ensures) at (c .if2 .taken))) (ap (At 3) (sym (c .before .lowest-bad .ensures))))
+    sym (listed d ∙ rw (fit, lt-leb _ _ (rw (c .before .lowest-bad .ensures) at (c .if2 .taken))) (ap (At 3) (sym (c .before .lowest-bad .ensures))))
 
 mul-if3 : tie.Need-mul-if3
 mul-if3 c = search needs
@@ -38,17 +46,13 @@ returns-3 : tie.Need-returns-3
 returns-3 c =
     let d = c .before .before .before .before .before in
     let fit = sym (c .before .before .before .before .fields-fit .ensures) ∙ not-false _ (c .before .before .before .if1 .left) in
-    sym
-    (body-checks (d .before .args .book .now) (d .before .args .n) (d .before .args .room) (λ i. omega (arith, d .shared-slice-known .given i)) (d .before .pre .0) (d .before .pre .1)
-    ∙ rw (fit, le-leb _ _ (rw (c .before .before .lowest-bad .ensures) at (c .before .if2 .left)), lt-leb _ _ (c .if3 .taken)) refl)
+    sym (listed d ∙ rw (fit, le-leb _ _ (rw (c .before .before .lowest-bad .ensures) at (c .before .if2 .left)), lt-leb _ _ (c .if3 .taken)) refl)
 
 returns-4 : tie.Need-returns-4
 returns-4 c =
     let d = c .before .before .before .before .before in
     let fit = sym (c .before .before .before .before .fields-fit .ensures) ∙ not-false _ (c .before .before .before .if1 .left) in
-    sym
-    (body-checks (d .before .args .book .now) (d .before .args .n) (d .before .args .room) (λ i. omega (arith, d .shared-slice-known .given i)) (d .before .pre .0) (d .before .pre .1)
-    ∙ rw (fit, le-leb _ _ (rw (c .before .before .lowest-bad .ensures) at (c .before .if2 .left)), le-leb _ _ (c .if3 .left)) refl)
+    sym (listed d ∙ rw (fit, le-leb _ _ (rw (c .before .before .lowest-bad .ensures) at (c .before .if2 .left)), le-leb _ _ (c .if3 .left)) refl)
 
 pub body-fault-spec : {M : Type 1} → statement M
 body-fault-spec =

@@ -1,6 +1,8 @@
 -- A fault gives its refusal, and the words stay as they were.
 -- Where there is none the table's words are stored, and the other parts are read where they stand. Assumes nothing.
+use Prim.Native.Nat.{ℕ}
 use mathlib.Core.Path.{_≡_, sym, _∙_}
+use mathlib.Core.List.{List}
 use native.Mathlib.Omega.{arith}
 use lib.ListN.{length}
 use Rattle.book.specs.Layout.{editionOne}
@@ -13,6 +15,12 @@ use borrow.Author.Needs.{needs}
 use Rattle.book.proofs.reading.read.Statement.{statement}
 use Rattle.book.proofs.reading.read.Tie as tie
 
+abbrev book : tie.Start → List ℕ
+book s = s .args .book .now
+
+abbrev words : tie.Start → List ℕ
+words s = s .args .words .now
+
 book-fault-requires : tie.Need-book-fault-requires
 book-fault-requires c κs = search needs
 
@@ -24,21 +32,22 @@ refused-requires c κs = search needs
 
 returns : tie.Need-returns
 returns c =
-    let a = c .before .before .before .before .before .before .before .args in
+    let s = c .before .before .before .before .before .before .before in
     let fault = sym (c .before .before .before .before .book-fault .ensures) ∙ c .before .before .number .given .1 in
-    (c .refused .ensures ∙ sym (read-refused (a .book .now) _ _ _ fault), sym (into-refused (a .book .now) (a .words .now) _ _ fault))
+    (c .refused .ensures ∙ sym (read-refused (book s) _ _ _ fault), sym (into-refused (book s) (words s) _ _ fault))
 
 enum-told : tie.Need-enum-told
 enum-told c = search needs
 
-clear : (c : tie.After-enum-told) → faultOf (readChecks editionOne (c .before .before .before .before .before .args .book .now) (length (c .before .before .before .before .before .args .words .now))) ≡ Clear
+-- where no check has failed
+clear : (c : tie.After-enum-told)
+    → let s = c .before .before .before .before .before in faultOf (readChecks editionOne (book s) (length (words s))) ≡ Clear
 clear c = sym (c .before .before .book-fault .ensures) ∙ c .enum-told .given .1
 
-good : (c : tie.After-enum-told) → Readable (c .before .before .before .before .before .args .book .now) (length (c .before .before .before .before .before .args .words .now))
+good : (c : tie.After-enum-told) → let s = c .before .before .before .before .before in Readable (book s) (length (words s))
 good c =
-    let b = c .before .before .before .before .before .args .book .now in
-    let room = length (c .before .before .before .before .before .args .words .now) in
-    readable b room (clear-passed (readChecks editionOne b room) (clear c))
+    let s = c .before .before .before .before .before in
+    readable (book s) (length (words s)) (clear-passed (readChecks editionOne (book s) (length (words s))) (clear c))
 
 shared-slice-read-n : tie.Need-shared-slice-read-n
 shared-slice-read-n c = omega (arith, good (c .before) .sealed .some)
@@ -64,9 +73,11 @@ same-length c = search needs
 returns-2 : tie.Need-returns-2
 unfolding content
 returns-2 c =
-    let a = c .before .before .before .before .before .before .before .before .before .before .before .before .args in
-    let fault = clear (c .before .before .before .before .before .before .before) in
-    (rw (c .verdict-at .ensures) (sym (read-taken (a .book .now) (length (a .words .now)) fault)), c .before .before .before .before .store-words .ensures ∙ sym (into-taken (a .book .now) (a .words .now) fault))
+    let known = c .before .before .before .before .before .before .before in
+    let s = known .before .before .before .before .before in (
+      rw (c .verdict-at .ensures) (sym (read-taken (book s) (length (words s)) (clear known))),
+      c .before .before .before .before .store-words .ensures ∙ sym (into-taken (book s) (words s) (clear known)),
+    )
 
 pub read-spec : {M : Type 1} → statement M
 read-spec =

@@ -3,7 +3,7 @@
 use Prim.Native.Nat.{ℕ, _*_, _≤_}
 use mathlib.Core.Path.{_≡_, sym, ap, _∙_}
 use mathlib.Core.Bool.{true}
-use mathlib.Core.List.{[], _++_}
+use mathlib.Core.List.{List, [], _++_}
 use native.Mathlib.Omega.{arith}
 use lib.ListN.{drop}
 use borrow.Author.Tests.{not-true, not-false}
@@ -19,50 +19,63 @@ use borrow.Author.Needs.{needs}
 use Rattle.book.proofs.writing.write.Statement.{statement}
 use Rattle.book.proofs.writing.write.Tie as tie
 
+abbrev words : tie.Start → List ℕ
+words s = s .args .words .now
+
+abbrev out : tie.Start → List ℕ
+out s = s .args .out .now
+
 check-table-requires : tie.Need-check-table-requires
 check-table-requires c κs = search needs
 
 returns : tie.Need-returns
 returns c =
-    let a = c .before .before .before .before .before .args in
+    let s = c .before .before .before .before .before in
     let found = c .before .before .check-table .ensures in
-    rw found (write-table (a .words .now) (a .m) (a .verdict) (a .out .now) (rw found at (c .if1 .taken)))
+    rw found (write-table (words s) (s .args .m) (s .args .verdict) (out s) (rw found at (c .if1 .taken)))
 
 row-count-requires : tie.Need-row-count-requires
 row-count-requires c κs = search needs
 
 -- where the table has passed its checks
-fair : (c : tie.Else1) → tableFault (c .before .before .before .before .before .args .words .now) (c .before .before .before .before .before .args .m) .number ≡ done
+fair : (c : tie.Else1) → let s = c .before .before .before .before .before in tableFault (words s) (s .args .m) .number ≡ done
 fair c = ap (λ (t : Checked). t .number) (sym (c .before .before .check-table .ensures)) ∙ c .if1 .left
 
 count : (c : tie.After-row-count) → c .row-count .result ≤ 96
-count c = rw (c .row-count .ensures) (row-count-most (c .before .before .before .before .before .before .args .words .now))
+count c = rw (c .row-count .ensures) (row-count-most (words (c .before .before .before .before .before .before)))
 
 formed-requires : tie.Need-formed-requires
 formed-requires c κs = count c
 
-form : (c : tie.After-formed) → c .formed .result ≡ formed (rowCount (c .before .before .before .before .before .before .before .args .words .now)) (c .before .before .before .before .before .before .before .args .verdict)
-form c = c .formed .ensures ∙ ap (λ (n : ℕ). formed n (c .before .before .before .before .before .before .before .args .verdict)) (c .before .row-count .ensures)
+form : (c : tie.After-formed)
+    → let s = c .before .before .before .before .before .before .before in c .formed .result ≡ formed (rowCount (words s)) (s .args .verdict)
+form c =
+    let s = c .before .before .before .before .before .before .before in
+    c .formed .ensures ∙ ap (λ (n : ℕ). formed n (s .args .verdict)) (c .before .row-count .ensures)
 
 returns-2 : tie.Need-returns-2
 returns-2 c =
-    let a = c .before .before .before .before .before .before .before .before .args in
-    write-form (a .words .now) (a .m) (a .verdict) (a .out .now) (fair (c .before .before .before)) (sym (form (c .before)) ∙ not-true _ (c .if2 .taken))
+    let s = c .before .before .before .before .before .before .before .before in
+    write-form (words s) (s .args .m) (s .args .verdict) (out s) (fair (c .before .before .before))
+    (sym (form (c .before)) ∙ not-true _ (c .if2 .taken))
 
 -- where the verdict has its form
-formed-now : (c : tie.Else2) → formed (rowCount (c .before .before .before .before .before .before .before .before .args .words .now)) (c .before .before .before .before .before .before .before .before .args .verdict) ≡ true
-formed-now c = sym (form (c .before)) ∙ not-false _ (c .if2 .left)
+right : (c : tie.Else2)
+    → let s = c .before .before .before .before .before .before .before .before in formed (rowCount (words s)) (s .args .verdict) ≡ true
+right c = sym (form (c .before)) ∙ not-false _ (c .if2 .left)
 
 size-requires : tie.Need-size-requires
 size-requires c κs = count (c .before .before)
 
-sized : (c : tie.After-size) → c .size .result ≡ 512 * blocks editionOne (rowCount (c .before .before .before .before .before .before .before .before .before .args .words .now))
+sized : (c : tie.After-size)
+    → let s = c .before .before .before .before .before .before .before .before .before in
+    c .size .result ≡ 512 * blocks editionOne (rowCount (words s))
 sized c = c .size .ensures ∙ ap (λ (n : ℕ). 512 * blocks editionOne n) (c .before .before .before .row-count .ensures)
 
 returns-3 : tie.Need-returns-3
 returns-3 c =
-    let a = c .before .before .before .before .before .before .before .before .before .before .args in
-    write-room (a .words .now) (a .m) (a .verdict) (a .out .now) (fair (c .before .before .before .before .before)) (formed-now (c .before .before))
+    let s = c .before .before .before .before .before .before .before .before .before .before in
+    write-room (words s) (s .args .m) (s .args .verdict) (out s) (fair (c .before .before .before .before .before)) (right (c .before .before))
     (rw (sized (c .before)) at (c .if3 .taken))
 
 cast-t14 : tie.Need-cast-t14
@@ -72,28 +85,31 @@ cast-t15 : tie.Need-cast-t15
 cast-t15 c = omega (arith, count (c .before .before .before .before .before .before))
 
 cast-t16 : tie.Need-cast-t16
-cast-t16 c = omega (arith, formed-kind _ _ (formed-now (c .before .before .before .before .before)))
+cast-t16 c = omega (arith, formed-kind _ _ (right (c .before .before .before .before .before)))
 
 store-book-requires : tie.Need-store-book-requires
-store-book-requires c κs = (count (c .before .before .before .before .before .before .before .before), rw (c .before .before .before .before .before .size .ensures) at (c .before .before .before .before .if3 .left))
+store-book-requires c κs =
+    let room = c .before .before .before .before in
+    (count (room .before .before .before .before), rw (room .before .size .ensures) at (room .if3 .left))
 
 same-length : tie.Need-same-length
 same-length c = search needs
 
 returns-4 : tie.Need-returns-4
 returns-4 c =
-    let a = c .before .before .before .before .before .before .before .before .before .before .before .before .before .before .before .before .before .args in
-    let n = c .before .before .before .before .before .before .before .before .before .before .before .row-count .ensures in
-    let done = write-done (a .words .now) (a .m) (a .verdict) (a .out .now) (fair (c .before .before .before .before .before .before .before .before .before .before .before .before)) (formed-now (c .before .before .before .before .before .before .before .before .before)) (rw (sized (c .before .before .before .before .before .before .before .before)) at (c .before .before .before .before .before .before .before .if3 .left)) in (
-      done .0,
-      c .before .before .store-book .ensures
-          ∙ ap
-          (λ (k : ℕ).
-          bookOf editionOne (record { m = a .m; n = k; verdict = a .verdict; more = []; table = a .words .now })
-          ++ drop (512 * blocks editionOne k) (a .out .now))
-          n
-          ∙ done .1,
-    )
+    let room = c .before .before .before .before .before .before .before in
+    let s = room .before .before .before .before .before .before .before .before .before .before in
+    let m = s .args .m in
+    let v = s .args .verdict in
+    let n = room .before .before .before .before .row-count .ensures in
+    let written =
+    write-done (words s) m v (out s) (fair (room .before .before .before .before .before)) (right (room .before .before))
+    (rw (sized (room .before)) at (room .if3 .left))
+    in
+    let stored : ℕ → List ℕ =
+    λ k. bookOf editionOne (record { m = m; n = k; verdict = v; more = []; table = words s }) ++ drop (512 * blocks editionOne k) (out s)
+    in
+    (written .0, c .before .before .store-book .ensures ∙ ap stored n ∙ written .1)
 
 pub write-spec : {M : Type 1} → statement M
 write-spec =

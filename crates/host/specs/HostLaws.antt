@@ -1,0 +1,255 @@
+-- Laws of the entry for host tools: its answer and the output by the check that decides them, what it writes reads back, and the stored verdict
+-- plays no part.
+-- Assumes nothing.
+use Prim.Native.Nat.{ℕ, _*_, _≤_, _<_}
+use mathlib.Core.Path.{_≡_, refl, sym, ap, _∙_}
+use mathlib.Core.Logic.{_⊎_, ⊎-elim}
+use mathlib.Core.Bool.{Bool, true, false, cond}
+use mathlib.Core.List.{List, [], _∷_, _++_}
+use native.Mathlib.Omega.{arith}
+use native.Mathlib.Nat.{le-refl}
+use lib.Dec.{leb}
+use lib.ListN.{length, getD, take, drop, replicate}
+use lib.Seq.{take-at}
+use borrow.Author.Tests.{le-leb, lt-leb, leb-true, leb-false}
+use Rattle.rows.specs.BoolLaws.{either}
+use Rattle.rows.specs.Judge.{Check, check, judge}
+use Rattle.rows.specs.Numbers.{done, blocked, short-output}
+use Rattle.rows.specs.Table.{rowCount, tableFault}
+use Rattle.rows.specs.TableLaws.{passed-valid}
+use Rattle.search.specs.Answers.{foundOf}
+use Rattle.book.specs.FaultLaws.{Passed, passed-clear, judge-passed}
+use Rattle.book.specs.Layout.{editionOne, blocks}
+use Rattle.book.specs.Read.{content, readChecks, refused, readOf, readInto, taken}
+use Rattle.book.specs.ReadLaws.{Readable, readable, read-taken, into-taken, table-length, content-count}
+use Rattle.book.specs.Write.{contentOf, writeOf, writeInto}
+use Rattle.book.specs.WriteLaws.{write-done}
+use Rattle.book.specs.BookLaws.{writable, writes-back, reads-back}
+use Rattle.book.specs.declared.reading.BookRead.{BookRead}
+use Rattle.book.specs.declared.writing.BookWritten.{BookWritten}
+use Rattle.host.specs.Host.{verdictBy, searched, hostChecks, hostNumber, hostInto}
+use Rattle.host.specs.VerdictLaws.{verdict-formed, verdict-typed, verdict-kind}
+
+-- ---- checks in their order
+
+module _ {A : Type 0} where
+  judge-append : (cs ds : List Check) (refuse : ℕ → ℕ → A) (work : A)
+      → judge (cs ++ ds) refuse work ≡ judge cs refuse (judge ds refuse work)
+  judge-append [] ds refuse work = refl
+  judge-append (c ∷ cs) ds refuse work =
+      ap (λ (rest : A). cond (c .passed) rest (refuse (c .number) (c .place))) (judge-append cs ds refuse work)
+
+  -- an answer that no refusal gives is the work's
+  judge-worked : (cs : List Check) (refuse : ℕ → ℕ → A) (work : A) (f : A → ℕ) → ((i p : ℕ) → f (refuse i p) ≡ 0)
+      → 1 ≤ f (judge cs refuse work) → Passed cs
+  judge-worked [] refuse work f z h = tt
+  judge-worked (c ∷ cs) refuse work f z h = go (c .passed) refl h (judge-worked cs refuse work f z)
+    where
+      go : (p : Bool) → c .passed ≡ p → 1 ≤ f (cond p (judge cs refuse work) (refuse (c .number) (c .place)))
+          → (1 ≤ f (judge cs refuse work) → Passed cs) → (c .passed ≡ true) × Passed cs
+      go true e k ih = (e, ih k)
+      go false e k ih = absurd (omega (arith, z (c .number) (c .place)))
+
+  -- where some check fails, the answer is its refusal whatever the work
+  judge-fails : (cs : List Check) (refuse : ℕ → ℕ → A) (x y : A) → (Passed cs → ⊥) → judge cs refuse x ≡ judge cs refuse y
+  judge-fails [] refuse x y h = absurd (h tt)
+  judge-fails (c ∷ cs) refuse x y h = go (c .passed) refl (judge-fails cs refuse x y)
+    where
+      go : (p : Bool) → c .passed ≡ p → ((Passed cs → ⊥) → judge cs refuse x ≡ judge cs refuse y)
+          → cond p (judge cs refuse x) (refuse (c .number) (c .place)) ≡ cond p (judge cs refuse y) (refuse (c .number) (c .place))
+      go true e ih = ih (λ q. h (e, q))
+      go false e ih = refl
+
+  judge-same : (cs : List Check) (x : A) → judge cs (λ number place. x) x ≡ x
+  judge-same [] x = refl
+  judge-same (c ∷ cs) x = go (c .passed) (judge-same cs x)
+    where
+      go : (p : Bool) → judge cs (λ number place. x) x ≡ x → cond p (judge cs (λ number place. x) x) x ≡ x
+      go true ih = ih
+      go false ih = refl
+
+judge-field : {A B : Type 0} (f : A → B) (cs : List Check) (refuse : ℕ → ℕ → A) (work : A)
+    → f (judge cs refuse work) ≡ judge cs (λ number place. f (refuse number place)) (f work)
+judge-field f [] refuse work = refl
+judge-field {A} {B} f (c ∷ cs) refuse work = go (c .passed) (judge-field f cs refuse work)
+  where
+    go : (p : Bool) → f (judge cs refuse work) ≡ judge cs (λ number place. f (refuse number place)) (f work)
+        → f (cond p (judge cs refuse work) (refuse (c .number) (c .place)))
+        ≡ cond p (judge cs (λ number place. f (refuse number place)) (f work)) (f (refuse (c .number) (c .place)))
+    go true ih = ih
+    go false ih = refl
+
+-- ---- the book that is written
+
+-- the writer takes the search's verdict
+pub searched-written : (words : List ℕ) (m : ℕ) (out : List ℕ) → tableFault words m .number ≡ done
+    → 512 * blocks editionOne (rowCount words) ≤ length out
+    → (writeOf words m (verdictBy words m) (length out) .number ≡ done)
+    × (writeInto words m (verdictBy words m) out ≡ searched words m ++ drop (512 * blocks editionOne (rowCount words)) out)
+unfolding searched
+searched-written words m out fair fits =
+    let written = write-done words m (verdictBy words m) out fair (verdict-formed words m fair) fits in
+    (ap (λ (r : BookWritten). r .number) (sym (written .0)), sym (written .1))
+
+-- ---- a book that was read
+
+abbrev pub tableOf : List ℕ → List ℕ
+tableOf b = content editionOne b .table
+
+abbrev pub coresOf : List ℕ → ℕ
+coresOf b = content editionOne b .m
+
+module _ (b into : List ℕ) (h : readOf b (length into) .number ≡ done) where
+  -- the table and the core count that reading hands over pass the checks of a table
+  handed-fair : tableFault (take (3 * readOf b (length into) .n) (readInto b into)) (readOf b (length into) .m) .number ≡ done
+  handed-fair = writable _ _ _ (length b) (ap (λ (r : BookWritten). r .number) (writes-back b into b h (le-refl (length b)) .0)) .fair
+
+  -- 0 is no refusal: a refusal hands over no cores
+  read-passed : Passed (readChecks editionOne b (length into))
+  unfolding readOf
+  read-passed =
+      judge-worked (readChecks editionOne b (length into)) refused (taken (content editionOne b)) (λ (r : BookRead). r .m) (λ i p. refl)
+      (passed-valid _ _ handed-fair .some-cores)
+
+  good : Readable b (length into)
+  good = readable b (length into) read-passed
+
+  read-content : readOf b (length into) ≡ taken (content editionOne b)
+  read-content = read-taken b (length into) (passed-clear (readChecks editionOne b (length into)) read-passed)
+
+  read-count : readOf b (length into) .n ≡ getD b 4 0
+  read-count = ap (λ (r : BookRead). r .n) read-content ∙ content-count editionOne b
+
+  read-room : 3 * readOf b (length into) .n ≤ length into
+  read-room = rw read-count (good .space)
+
+  read-table : take (3 * readOf b (length into) .n) (readInto b into) ≡ tableOf b
+  read-table =
+      rw read-count
+      (ap (take (3 * getD b 4 0)) (into-taken b into (passed-clear (readChecks editionOne b (length into)) read-passed))
+      ∙ take-at (tableOf b) (drop (3 * getD b 4 0) into) (3 * getD b 4 0) (table-length editionOne b))
+
+  read-fair : tableFault (tableOf b) (coresOf b) .number ≡ done
+  read-fair = rw (read-table, read-content) at handed-fair
+
+  read-size : length b ≡ 512 * blocks editionOne (rowCount (tableOf b))
+  unfolding rowCount
+  read-size =
+      let count : rowCount (tableOf b) ≡ getD b 4 0 = omega (arith, table-length editionOne b, good .headed .few) in
+      good .headed .size ∙ ap (λ (n : ℕ). 512 * blocks editionOne n) (sym count)
+
+-- words as the entry lends them to reading
+abbrev pub lent : List ℕ
+lent = replicate 288 0
+
+-- ---- the answer by the check that decides it
+
+module _ (b out : List ℕ) where
+  abbrev room : List Check
+  room = check (leb (length b) (length out)) short-output ∷ []
+
+  -- the book is refused
+  pub host-refused : (readOf b 288 .number ≡ done → ⊥) → (hostNumber b (length out) ≡ readOf b 288 .number) × (hostInto b out ≡ out)
+  unfolding hostNumber hostInto readOf
+  host-refused h =
+      let cs = readChecks editionOne b 288 in
+      let x = content editionOne b in
+      let fails : Passed cs → ⊥ = λ p. h (ap (λ (r : BookRead). r .number) (judge-passed cs refused (taken x) p)) in (
+        judge-append cs room (λ number place. number) _ ∙ judge-fails cs (λ number place. number) _ done fails
+            ∙ sym (judge-field (λ (r : BookRead). r .number) cs refused (taken x)),
+        judge-append cs room (λ number place. out) _ ∙ judge-fails cs (λ number place. out) _ out fails ∙ judge-same cs out,
+      )
+
+  module _ (h : readOf b 288 .number ≡ done) where
+    judge-room : {A : Type 0} (refuse : ℕ → ℕ → A) (work : A) → judge (hostChecks b (length out)) refuse work ≡ judge room refuse work
+    judge-room refuse work =
+        judge-append (readChecks editionOne b 288) room refuse work
+        ∙ judge-passed (readChecks editionOne b 288) refuse (judge room refuse work) (read-passed b lent h)
+
+    -- the output is shorter than the book
+    pub host-short : length out < length b → (hostNumber b (length out) ≡ short-output) × (hostInto b out ≡ out)
+    unfolding hostNumber hostInto
+    host-short l =
+        let short = lt-leb (length b) (length out) l in
+        (judge-room (λ number place. number) _ ∙ rw short refl, judge-room (λ number place. out) _ ∙ rw short refl)
+
+    module _ (l : length b ≤ length out) where
+      -- the work: the search's number, and the book with the search's verdict
+      pub host-searched : (hostNumber b (length out) ≡ foundOf (tableOf b) (coresOf b) 96 .number)
+          × (hostInto b out ≡ searched (tableOf b) (coresOf b) ++ drop (length b) out)
+      unfolding hostNumber hostInto
+      host-searched =
+          let fits = le-leb (length b) (length out) l in
+          (judge-room (λ number place. number) _ ∙ rw fits refl, judge-room (λ number place. out) _ ∙ rw fits refl)
+
+      -- 0 with verdict 1, 4 with verdict 2
+      pub host-number : ((hostNumber b (length out) ≡ done) × (verdictBy (tableOf b) (coresOf b) .kind ≡ 1))
+          ⊎ ((hostNumber b (length out) ≡ blocked) × (verdictBy (tableOf b) (coresOf b) .kind ≡ 2))
+      host-number = rw (host-searched .0) (verdict-kind (tableOf b) (coresOf b) (read-fair b lent h))
+
+      -- what is written reads back as the same table and core count with the search's verdict
+      pub host-reads : (into : List ℕ) → length (tableOf b) ≤ length into
+          → (readOf (take (length b) (hostInto b out)) (length into)
+          ≡ taken (contentOf (tableOf b) (coresOf b) (verdictBy (tableOf b) (coresOf b))))
+          × (readInto (take (length b) (hostInto b out)) into ≡ tableOf b ++ drop (length (tableOf b)) into)
+      host-reads into r =
+          let words = tableOf b in
+          let m = coresOf b in
+          let fair = read-fair b lent h in
+          let size = read-size b lent h in
+          let written = searched-written words m out fair (omega (arith, size)) in
+          let same : writeInto words m (verdictBy words m) out ≡ hostInto b out = written .1 ∙ rw (host-searched .1, size) refl in
+          rw (size, ← same) (reads-back words m (verdictBy words m) out into (verdict-typed words m fair) (written .0) r)
+
+-- the stored verdict plays no part: books of one table and core count, whatever their verdicts, get one answer and one output
+pub host-verdict-ignored : (b c out : List ℕ) → readOf b 288 .number ≡ done → readOf c 288 .number ≡ done → tableOf b ≡ tableOf c
+    → coresOf b ≡ coresOf c → (hostNumber b (length out) ≡ hostNumber c (length out)) × (hostInto b out ≡ hostInto c out)
+host-verdict-ignored b c out h k t m =
+    let size : length b ≡ length c =
+    read-size b lent h ∙ ap (λ (w : List ℕ). 512 * blocks editionOne (rowCount w)) t ∙ sym (read-size c lent k)
+    in
+    ⊎-elim
+    (λ (l : leb (length c) (length out) ≡ true).
+    let fits = leb-true (length c) (length out) l in
+    let x = host-searched b out h (omega arith) in
+    let y = host-searched c out k fits in
+    (x .0 ∙ rw (t, m) refl ∙ sym (y .0), x .1 ∙ rw (t, m, size) refl ∙ sym (y .1)))
+    (λ (l : leb (length c) (length out) ≡ false).
+    let short = leb-false (length c) (length out) l in
+    let x = host-short b out h (omega arith) in
+    let y = host-short c out k short in
+    (x .0 ∙ sym (y .0), x .1 ∙ sym (y .1)))
+    (either (leb (length c) (length out)))
+
+-- ---- what the code holds
+
+-- reading's answer and the words afterwards, where the number is 0
+pub record Handed (b words : List ℕ) (r : BookRead) : Type 0 where
+  pub number : readOf b 288 .number ≡ done
+  pub room : 3 * r .n ≤ 288
+  pub table : take (3 * r .n) words ≡ tableOf b
+  pub cores : r .m ≡ coresOf b
+  pub fair : tableFault (take (3 * r .n) words) (r .m) .number ≡ done
+  pub size : length b ≡ 512 * blocks editionOne (rowCount (take (3 * r .n) words))
+
+pub read-handed : (b words : List ℕ) (r : BookRead) → r ≡ readOf b 288 → words ≡ readInto b lent → r .number ≡ done → Handed b words r
+read-handed b words r e w d =
+    let number : readOf b 288 .number ≡ done = rw e at d in
+    rw (w, e)
+    (record {
+      number = number;
+      room = read-room b lent number;
+      table = read-table b lent number;
+      cores = ap (λ (r : BookRead). r .m) (read-content b lent number);
+      fair = handed-fair b lent number;
+      size = rw (read-table b lent number) (read-size b lent number);
+    })
+
+-- the work, told of the words handed over
+pub handed-searched : (b words : List ℕ) (r : BookRead) → Handed b words r → (out : List ℕ) → length b ≤ length out
+    → let t = take (3 * r .n) words in
+    (foundOf t (r .m) 96 .number ≡ hostNumber b (length out))
+    × (searched t (r .m) ++ drop (512 * blocks editionOne (rowCount t)) out ≡ hostInto b out)
+handed-searched b words r h out l =
+    let work = host-searched b out (h .number) l in
+    rw (← h .size, h .table, h .cores) (sym (work .0), sym (work .1))
