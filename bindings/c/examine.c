@@ -3,24 +3,36 @@
  * A case is a book and an output, each its length as two bytes, high byte first, then its bytes. An answer is the
  * number as eight bytes, high byte first, then the output as it is after the call. The run ends with the input.
  */
+#define _DEFAULT_SOURCE
 #include "heralinda.h"
 
 #include <stdio.h>
-#include <stdlib.h>
+#include <sys/mman.h>
 
-/* Each buffer is allocated at its own length, so that a checker of memory sees a read or write past it. */
-static uint8_t *read_list(size_t *length) {
+/* The longest list and the fence behind it: both a whole number of pages on every board that runs this. */
+enum { MOST = 65536 };
+
+/*
+ * The end of MOST bytes, behind which no access is allowed. A list that is lent ends there, so that a read or a write
+ * past it ends this program, on machines that have no checker of memory too.
+ */
+static uint8_t *fence(void) {
+    uint8_t *start = mmap(NULL, 2 * MOST, PROT_READ | PROT_WRITE, MAP_PRIVATE | MAP_ANONYMOUS, -1, 0);
+    if (start == MAP_FAILED || mprotect(start + MOST, MOST, PROT_NONE) != 0) {
+        return NULL;
+    }
+    return start + MOST;
+}
+
+/* Reads a list so that it ends at `end`, and answers where it starts. */
+static uint8_t *read_list(uint8_t *end, size_t *length) {
     uint8_t head[2];
     if (fread(head, 1, 2, stdin) != 2) {
         return NULL;
     }
     *length = (size_t)head[0] * 256 + head[1];
-    uint8_t *bytes = malloc(*length == 0 ? 1 : *length);
-    if (bytes == NULL || fread(bytes, 1, *length, stdin) != *length) {
-        free(bytes);
-        return NULL;
-    }
-    return bytes;
+    uint8_t *start = end - *length;
+    return fread(start, 1, *length, stdin) == *length ? start : NULL;
 }
 
 static void write_number(uint32_t number) {
@@ -30,19 +42,21 @@ static void write_number(uint32_t number) {
 }
 
 int main(void) {
+    uint8_t *book_end = fence();
+    uint8_t *out_end = fence();
+    if (book_end == NULL || out_end == NULL) {
+        return 2;
+    }
     size_t book_length;
     size_t out_length;
     uint8_t *book;
-    while ((book = read_list(&book_length)) != NULL) {
-        uint8_t *out = read_list(&out_length);
+    while ((book = read_list(book_end, &book_length)) != NULL) {
+        uint8_t *out = read_list(out_end, &out_length);
         if (out == NULL) {
-            free(book);
             return 1;
         }
         write_number(heralinda_search(book, book_length, out, out_length));
         fwrite(out, 1, out_length, stdout);
-        free(book);
-        free(out);
     }
     return 0;
 }
