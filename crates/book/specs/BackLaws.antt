@@ -36,7 +36,6 @@ pub record Legal (e : Edition) (x : Content) : Type 0 where
   pub words : (j : ℕ) → getD (x .table) j 0 < 2 ^ 32
   pub rows : (i : ℕ) → i < x .n → inRange (rowWords e (x .table) i) ≡ true
 
-
 -- a test that takes none of the numbers below n
 first-none : (p : ℕ → Bool) (n : ℕ) → ((i : ℕ) → i < n → p i ≡ false) → n ≤ first p n 0
 first-none p n h =

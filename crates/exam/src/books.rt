@@ -27,7 +27,7 @@ fn answer_write(words: &[u32], m: u32, verdict: Verdict, out: &mut [u8]) {
     io::write_all(1, &*out);
 }
 
-pub fn write(bytes: &mut [u8], words: &mut [u32], out: &mut [u8]) -> bool
+pub(crate) fn write(bytes: &mut [u8], words: &mut [u32], out: &mut [u8]) -> bool
     requires { ⌜ (4096 ≤ length (now bytes)) × (512 ≤ length (now words)) × (4096 ≤ length (now out)) ⌝ }
 {
     let n = table::read(bytes, words, 117);
@@ -61,7 +61,7 @@ fn answer_read(book: &[u8], words: &mut [u32]) {
     output::words(&*words);
 }
 
-pub fn read(bytes: &mut [u8], words: &mut [u32], out: &mut [u8]) -> bool
+pub(crate) fn read(bytes: &mut [u8], words: &mut [u32], out: &mut [u8]) -> bool
     requires { ⌜ (4096 ≤ length (now bytes)) × (512 ≤ length (now words)) × (4096 ≤ length (now out)) ⌝ }
 {
     let size = input::list(bytes, out);

@@ -14,7 +14,7 @@ fn wide(x: u8) -> u64
 }
 
 // The number of `size` bytes from `at` on, of which the last eight count.
-pub fn number_at(bytes: &[u8], at: usize, size: usize) -> u64
+pub(crate) fn number_at(bytes: &[u8], at: usize, size: usize) -> u64
     requires { ⌜ at + size ≤ length (now bytes) ⌝ }
 {
     let mut value: u64 = 0;
@@ -27,14 +27,14 @@ pub fn number_at(bytes: &[u8], at: usize, size: usize) -> u64
 }
 
 // Reads so many bytes; false where the input ends before them.
-pub fn fill(bytes: &mut [u8], count: usize) -> bool
+pub(crate) fn fill(bytes: &mut [u8], count: usize) -> bool
     requires { ⌜ count ≤ length (now bytes) ⌝ }
 {
     io::read_full(0, &mut bytes[..count]) == count
 }
 
 // The next number, of `size` bytes.
-pub fn number(bytes: &mut [u8], size: usize) -> Got
+pub(crate) fn number(bytes: &mut [u8], size: usize) -> Got
     requires { ⌜ size ≤ length (now bytes) ⌝ }
 {
     if !fill(bytes, size) {
@@ -59,7 +59,7 @@ fn count(bytes: &mut [u8], most: usize) -> usize
 }
 
 // The next list of words, and how many they are; 513 where the input ends or the list is longer than 512.
-pub fn words(bytes: &mut [u8], words: &mut [u32]) -> usize
+pub(crate) fn words(bytes: &mut [u8], words: &mut [u32]) -> usize
     requires { ⌜ (4096 ≤ length (now bytes)) × (512 ≤ length (now words)) ⌝ }
 {
     let n = count(bytes, 512);
@@ -78,7 +78,7 @@ pub fn words(bytes: &mut [u8], words: &mut [u32]) -> usize
 }
 
 // The next list of bytes, and how many they are; 4097 where the input ends or the list is longer than 4096.
-pub fn list(bytes: &mut [u8], out: &mut [u8]) -> usize
+pub(crate) fn list(bytes: &mut [u8], out: &mut [u8]) -> usize
     requires { ⌜ (2 ≤ length (now bytes)) × (4096 ≤ length (now out)) ⌝ }
 {
     let n = count(bytes, 4096);
@@ -92,7 +92,7 @@ pub fn list(bytes: &mut [u8], out: &mut [u8]) -> usize
 }
 
 // The 96 bytes from `at` on.
-pub fn order_at(bytes: &[u8], at: usize) -> [u8; 96]
+pub(crate) fn order_at(bytes: &[u8], at: usize) -> [u8; 96]
     requires { ⌜ at + 96 ≤ length (now bytes) ⌝ }
 {
     let mut order = [0u8; 96];

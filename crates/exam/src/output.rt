@@ -1,7 +1,7 @@
 // Parts of an answer, each eight bytes, high byte first.
 use rows::Set;
 
-pub fn part(value: u64) {
+pub(crate) fn part(value: u64) {
     let mut bytes = [0u8; 8];
     let mut rest = value;
     let mut i: usize = 8;
@@ -13,16 +13,16 @@ pub fn part(value: u64) {
     io::write_all(1, &bytes);
 }
 
-pub fn flag(value: bool) {
+pub(crate) fn flag(value: bool) {
     part(if value { 1 } else { 0 });
 }
 
-pub fn set(value: Set) {
+pub(crate) fn set(value: Set) {
     part(value.low);
     part(value.high);
 }
 
-pub fn order(order: [u8; 96]) {
+pub(crate) fn order(order: [u8; 96]) {
     io::write_all(1, &order);
 }
 
@@ -37,7 +37,7 @@ fn word(value: u32) {
     io::write_all(1, &bytes);
 }
 
-pub fn words(words: &[u32]) {
+pub(crate) fn words(words: &[u32]) {
     let mut i: usize = 0;
     while i < words.len() {
         word(words[i]);

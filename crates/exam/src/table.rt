@@ -6,13 +6,13 @@ use crate::output;
 use rows::Set;
 use search::State;
 
-pub fn word(bytes: &[u8], at: usize) -> u32
+pub(crate) fn word(bytes: &[u8], at: usize) -> u32
     requires { ⌜ at + 4 ≤ length (now bytes) ⌝ }
 {
     (input::number_at(bytes, at, 4) % 0x1_0000_0000) as u32
 }
 
-pub fn set(bytes: &[u8], at: usize) -> Set
+pub(crate) fn set(bytes: &[u8], at: usize) -> Set
     requires { ⌜ at + 16 ≤ length (now bytes) ⌝ }
 {
     Set {
@@ -34,7 +34,7 @@ fn answer_test(words: &[u32], bytes: &[u8])
 }
 
 // The table of a case and so many bytes after it: how many words; 513 where the input ends before them.
-pub fn read(bytes: &mut [u8], words: &mut [u32], size: usize) -> usize
+pub(crate) fn read(bytes: &mut [u8], words: &mut [u32], size: usize) -> usize
     requires { ⌜ (4096 ≤ length (now bytes)) × (512 ≤ length (now words)) × (size ≤ 4096) ⌝ }
 {
     let n = input::words(bytes, words);
@@ -47,7 +47,7 @@ pub fn read(bytes: &mut [u8], words: &mut [u32], size: usize) -> usize
     n
 }
 
-pub fn test(bytes: &mut [u8], words: &mut [u32]) -> bool
+pub(crate) fn test(bytes: &mut [u8], words: &mut [u32]) -> bool
     requires { ⌜ (4096 ≤ length (now bytes)) × (512 ≤ length (now words)) ⌝ }
 {
     let n = read(bytes, words, 24);
@@ -69,7 +69,7 @@ fn answer_search(words: &[u32], m: u32, out: &mut [u8]) {
 }
 
 // Kind 2: m and the output.
-pub fn search(bytes: &mut [u8], words: &mut [u32], out: &mut [u8]) -> bool
+pub(crate) fn search(bytes: &mut [u8], words: &mut [u32], out: &mut [u8]) -> bool
     requires { ⌜ (4096 ≤ length (now bytes)) × (512 ≤ length (now words)) × (4096 ≤ length (now out)) ⌝ }
 {
     let n = read(bytes, words, 4);
@@ -115,7 +115,7 @@ fn answer_step(words: &[u32], bytes: &[u8])
     output::part(next.cursor as u64);
 }
 
-pub fn step(bytes: &mut [u8], words: &mut [u32]) -> bool
+pub(crate) fn step(bytes: &mut [u8], words: &mut [u32]) -> bool
     requires { ⌜ (4096 ≤ length (now bytes)) × (512 ≤ length (now words)) ⌝ }
 {
     let n = read(bytes, words, 124);
@@ -134,7 +134,7 @@ fn answer_policy(words: &[u32], m: u32, policy: u32, out: &mut [u8]) {
 }
 
 // Kind 4: m, the policy and the output.
-pub fn policy(bytes: &mut [u8], words: &mut [u32], out: &mut [u8]) -> bool
+pub(crate) fn policy(bytes: &mut [u8], words: &mut [u32], out: &mut [u8]) -> bool
     requires { ⌜ (4096 ≤ length (now bytes)) × (512 ≤ length (now words)) × (4096 ≤ length (now out)) ⌝ }
 {
     let n = read(bytes, words, 8);
@@ -160,7 +160,7 @@ fn answer_order(words: &[u32], m: u32, order: &[u8]) {
 }
 
 // Kind 5: m and the order.
-pub fn check_order(bytes: &mut [u8], words: &mut [u32], out: &mut [u8]) -> bool
+pub(crate) fn check_order(bytes: &mut [u8], words: &mut [u32], out: &mut [u8]) -> bool
     requires { ⌜ (4096 ≤ length (now bytes)) × (512 ≤ length (now words)) × (4096 ≤ length (now out)) ⌝ }
 {
     let n = read(bytes, words, 4);
@@ -185,7 +185,7 @@ fn answer_group(words: &[u32], bytes: &[u8])
     output::part(r.row as u64);
 }
 
-pub fn check_group(bytes: &mut [u8], words: &mut [u32]) -> bool
+pub(crate) fn check_group(bytes: &mut [u8], words: &mut [u32]) -> bool
     requires { ⌜ (4096 ≤ length (now bytes)) × (512 ≤ length (now words)) ⌝ }
 {
     let n = read(bytes, words, 20);
