@@ -1,0 +1,45 @@
+-- A member's line is put with the other members above it, and nothing for a row that is no member.
+-- Assumes nothing.
+use mathlib.Core.Path.{_≡_, sym, _∙_}
+use borrow.Author.Needs.{needs}
+use Rattle.rows.specs.Sets.{has, withoutRow}
+use Rattle.report.specs.TextLaws.{puts-nothing}
+use Rattle.report.specs.Listing.{rowLine, memberLine}
+use Rattle.report.specs.ListingLaws.{member-line, no-member}
+use Rattle.report.proofs.lines.put_member.Statement.{statement}
+use Rattle.report.proofs.lines.put_member.Tie as tie
+
+abbrev entry : tie.Then1 → tie.Start
+entry c = c .before .before .before .before
+
+line : (c : tie.Then1)
+    → rowLine (entry c .args .words .now) (entry c .args .m) (has (withoutRow (entry c .args .group) (entry c .args .i))) (entry c .args .i)
+    ≡ memberLine (entry c .args .words .now) (entry c .args .m) (has (entry c .args .group)) (entry c .args .i)
+line c = let a = entry c .args in member-line (a .words .now) (a .m) (a .group) (a .i) (sym (c .before .has .ensures) ∙ c .if1 .taken)
+
+has-requires : tie.Need-has-requires
+has-requires c κs = search needs
+
+without-requires : tie.Need-without-requires
+without-requires c κs = search needs
+
+put-row-requires : tie.Need-put-row-requires
+put-row-requires c κs =
+    let start = c .before .before .before .before .before .before in
+    (start .pre .0, rw (c .before .without .ensures, line (c .before .before)) (start .pre .1))
+
+same-length : tie.Need-same-length
+same-length c = search needs
+
+returns : tie.Need-returns
+returns c = rw (← line (c .before .before .before .before .before), ← c .before .before .before .before .without .ensures) (c .before .before .put-row .ensures)
+
+returns-2 : tie.Need-returns-2
+returns-2 c =
+    let a = c .before .before .before .before .args in
+    rw (no-member (a .words .now) (a .m) (a .group) (a .i) (sym (c .before .has .ensures) ∙ c .if1 .left)) (puts-nothing _ _)
+
+pub put-member-spec : {M : Type 1} → statement M
+put-member-spec =
+    tie.close
+    (tie.spec has-requires without-requires put-row-requires same-length returns returns-2)

@@ -1,0 +1,85 @@
+-- A book that reading refuses has the text of its number, and of one that was read the table at the start of the words is listed.
+-- Either way the text is put from the output's start on. Assumes nothing.
+use Prim.Native.Nat.{ℕ}
+use mathlib.Core.Path.{_≡_, sym, _∙_}
+use mathlib.Core.List.{List}
+use native.Mathlib.Omega.{arith}
+use native.Mathlib.Nat.{zero-add}
+use lib.ListN.{length, replicate, length-replicate}
+use lib.Seq.{length-take-le}
+use borrow.Author.Needs.{needs}
+use Rattle.book.specs.Read.{readOf}
+use Rattle.report.specs.Text.{over}
+use Rattle.report.specs.TextLaws.{Puts}
+use Rattle.report.specs.ListingLaws.{Taken, listing-refused, listing-taken}
+use Rattle.report.proofs.list.Statement.{statement}
+use Rattle.report.proofs.list.Tie as tie
+
+-- text that is put from the start on ends at its length
+answers : {out text after : List ℕ} {r : ℕ} → Puts out 0 text after r → (r ≡ length text) × (after ≡ over out 0 text)
+answers {text = text} p = (p .end ∙ zero-add (length text), p .bytes)
+
+abbrev entry : tie.After-read → tie.Start
+entry c = c .before .before .before .before
+
+answer : (c : tie.After-read) → c .read .result ≡ readOf (entry c .args .book .now) 288
+answer c = rw (length-replicate {A = ℕ} 288 0) at (c .read .ensures .0)
+
+size : (c : tie.After-read) → length (c .read .last .1 .0) ≡ 288
+size c = c .read .kept .1 .0
+
+good : (c : tie.Else1) → Taken (entry (c .before .before .before) .args .book .now) (replicate 288 0) (c .before .before .before .read .result)
+good c = listing-taken _ _ (answer (c .before .before .before)) (replicate 288 0) (length-replicate {A = ℕ} 288 0) (c .if1 .left)
+
+slice-aggregate-read : tie.Need-slice-aggregate-read
+slice-aggregate-read c = search needs
+
+read-requires : tie.Need-read-requires
+read-requires c κs = search needs
+
+put-refused-requires : tie.Need-put-refused-requires
+put-refused-requires c κs = search needs
+
+same-length : tie.Need-same-length
+same-length c = search needs
+
+returns : tie.Need-returns
+returns c =
+    let at = c .before .before .before .before .before .before .before in
+    answers (rw (listing-refused _ _ (answer at) (c .before .before .before .before .if1 .taken)) (c .before .before .put-refused .ensures))
+
+mul-size : tie.Need-mul-size
+mul-size c = omega (arith, good (c .before) .fits)
+
+array-share-prefix-words : tie.Need-array-share-prefix-words
+array-share-prefix-words c = omega (arith, good (c .before) .fits, size (c .before .before .before .before))
+
+slice-aggregate-put-table : tie.Need-slice-aggregate-put-table
+slice-aggregate-put-table c = sym (length-take-le _ _ (omega (arith, good (c .before .before) .fits, size (c .before .before .before .before .before))))
+
+put-table-requires : tie.Need-put-table-requires
+put-table-requires c κs = let book = good (c .before .before .before) in (book .some-cores, book .most-cores)
+
+same-length-2 : tie.Need-same-length-2
+same-length-2 c = search needs
+
+returns-2 : tie.Need-returns-2
+returns-2 c =
+    let book = good (c .before .before .before .before .before .before) in
+    answers (rw (book .text) (rw (c .before .before .before .before .before .before .before .before .before .read .ensures .1, book .table) at (c .before .before .put-table .ensures)))
+
+pub list-spec : {M : Type 1} → statement M
+list-spec =
+    tie.close
+    (tie.spec
+    slice-aggregate-read
+    read-requires
+    put-refused-requires
+    same-length
+    returns
+    mul-size
+    array-share-prefix-words
+    slice-aggregate-put-table
+    put-table-requires
+    same-length-2
+    returns-2)
