@@ -1,5 +1,5 @@
--- The name and the number are put, and a line feed behind them; a number of 32 bits has at most ten digits.
--- Assumes nothing.
+-- The name and the number are put, and a line feed behind them.
+-- A number of 32 bits has at most ten digits, so there is room. Assumes nothing.
 use Prim.Native.Nat.{ℕ, _^_, _<_}
 use native.Mathlib.Omega.{arith}
 use borrow.Author.Needs.{needs}

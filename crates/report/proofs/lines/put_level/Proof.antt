@@ -1,5 +1,5 @@
 -- The level, a space and the line are put one behind the other.
--- Assumes nothing.
+-- The room of each is that of the whole. Assumes nothing.
 use borrow.Author.Needs.{needs}
 use Rattle.report.specs.TextLaws.{room-first, room-rest, puts-then}
 use Rattle.report.proofs.lines.put_level.Statement.{statement}

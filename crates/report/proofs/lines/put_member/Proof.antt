@@ -1,5 +1,5 @@
--- A member's line is put with the other members above it, and nothing for a row that is no member.
--- Assumes nothing.
+-- A member's line is put with the mask of the other members, which the line cannot tell from the set.
+-- For a row that is no member nothing is put. Assumes nothing.
 use mathlib.Core.Path.{_≡_, sym, _∙_}
 use borrow.Author.Needs.{needs}
 use Rattle.rows.specs.Sets.{has, withoutRow}

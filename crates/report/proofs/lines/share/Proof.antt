@@ -1,5 +1,5 @@
--- With T the quotient is the definition's; a division by no T adds nothing, there as here.
--- Assumes nothing.
+-- With a T the quotient is the definition's.
+-- A division by no T gives 0, there as here. Assumes nothing.
 use mathlib.Core.Path.{refl}
 use native.Mathlib.Nat.{div-zero}
 use borrow.Author.Needs.{needs}

@@ -1,5 +1,5 @@
 -- The name is put, and the digits behind it.
--- Assumes nothing.
+-- The room of both is that of the field. Assumes nothing.
 use borrow.Author.Needs.{needs}
 use Rattle.report.specs.Text.{decimal}
 use Rattle.report.specs.TextLaws.{room-first, room-rest, puts-then}
