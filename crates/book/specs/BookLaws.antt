@@ -9,7 +9,7 @@ use mathlib.Core.List.{List, [], _++_}
 use native.Mathlib.Omega.{arith}
 use native.Mathlib.Nat.{zero-add, lt-of-lt-of-le}
 use lib.Dec.{ltb, leb, eqb}
-use lib.ListN.{length, getD, take, drop, List·getD-eq-default}
+use lib.ListN.{length, getD, take, drop, replicate, List·getD-eq-default}
 use lib.Seq.{take-at}
 use lib.Pow.{pow-mono}
 use borrow.Author.Tests.{eqb-true, eq-eqb, le-leb, ltb-true, ltb-false, leb-true, not-false}
@@ -110,7 +110,7 @@ refusing-read b room =
     refusing-append (blockChecks b) (headChecks editionOne x b ++ bodyChecks editionOne x b room)
     (refl, refusing-each b 0 (length b / 512)) (refl, (refl, (refl, (refl, (refl, (refl, (refl, tt)))))))
 
-read-passed : (b : List ℕ) (room : ℕ) → readOf b room .number ≡ done → Passed (readChecks editionOne b room)
+pub read-passed : (b : List ℕ) (room : ℕ) → readOf b room .number ≡ done → Passed (readChecks editionOne b room)
 unfolding readOf
 read-passed b room h =
     done-passed (readChecks editionOne b room) refused (taken (content editionOne b)) (λ (r : BookRead). r .number)
@@ -278,6 +278,44 @@ module _ (b into : List ℕ) (h : readOf b (length into) .number ≡ done) where
   formed-again : formed (rowCount (words-read b into)) (readOf b (length into) .verdict) ≡ true
   unfolding content
   formed-again = rw (table-cut, answer, count b (length into) good) (good .form)
+
+-- what reading hands over with 0: the core count, and the table at the start of the words
+pub record Handed (b : List ℕ) (room : ℕ) (words : List ℕ) (r : BookRead) : Type 0 where
+  pub read : readOf b room .number ≡ done
+  pub some-cores : 1 ≤ r .m
+  pub most-cores : r .m ≤ 32
+  pub cores : r .m ≡ content editionOne b .m
+  pub fits : 3 * r .n ≤ room
+  pub table : take (3 * r .n) words ≡ content editionOne b .table
+  pub fair : tableFault (content editionOne b .table) (content editionOne b .m) .number ≡ done
+  pub size : length b ≡ 512 * blocks editionOne (rowCount (content editionOne b .table))
+
+pub handed : (b into words : List ℕ) (r : BookRead) → r ≡ readOf b (length into) → words ≡ readInto b into → r .number ≡ done
+    → Handed b (length into) words r
+unfolding content words-read
+handed b into words r e w d =
+    let h : readOf b (length into) .number ≡ done = rw e at d in
+    let g = good b into h in
+    let rows = ap (λ (r : BookRead). r .n) (answer b into h) ∙ content-count editionOne b in
+    let cores = ap (λ (r : BookRead). r .m) (answer b into h) in
+    rw (w, e)
+    (record {
+      read = h;
+      some-cores = rw cores (g .headed .some-cores);
+      most-cores = rw cores (g .headed .most-cores);
+      cores = cores;
+      fits = rw rows (g .space);
+      table = table-cut b into h;
+      fair = words-fair b (length into) g;
+      size = g .headed .size ∙ ap (λ (n : ℕ). 512 * blocks editionOne n) (sym (count b (length into) g));
+    })
+
+-- as many words as the longest table has, and what reading hands over in them
+abbrev pub lent : List ℕ
+lent = replicate 288 0
+
+pub read-handed : (b : List ℕ) → readOf b 288 .number ≡ done → Handed b 288 (readInto b lent) (readOf b 288)
+read-handed b h = handed b lent (readInto b lent) (readOf b 288) refl refl h
 
 -- a book that was read is what writing its content gives
 pub writes-back : (b into out : List ℕ) → readOf b (length into) .number ≡ done → length b ≤ length out

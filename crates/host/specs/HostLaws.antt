@@ -7,24 +7,20 @@ use mathlib.Core.Logic.{_⊎_, ⊎-elim}
 use mathlib.Core.Bool.{Bool, true, false, cond}
 use mathlib.Core.List.{List, [], _∷_, _++_}
 use native.Mathlib.Omega.{arith}
-use native.Mathlib.Nat.{le-refl}
 use lib.Dec.{leb}
-use lib.ListN.{length, getD, take, drop, replicate}
-use lib.Seq.{take-at}
+use lib.ListN.{length, take, drop}
 use borrow.Author.Tests.{le-leb, lt-leb, leb-true, leb-false}
 use Rattle.rows.specs.BoolLaws.{either}
 use Rattle.rows.specs.Judge.{Check, check, judge}
 use Rattle.rows.specs.Numbers.{done, blocked, short-output}
 use Rattle.rows.specs.Table.{rowCount, tableFault}
-use Rattle.rows.specs.TableLaws.{passed-valid}
 use Rattle.search.specs.Answers.{foundOf}
-use Rattle.book.specs.FaultLaws.{Passed, passed-clear, judge-passed}
+use Rattle.book.specs.FaultLaws.{Passed, judge-passed}
 use Rattle.book.specs.Layout.{editionOne, blocks}
 use Rattle.book.specs.Read.{content, readChecks, refused, readOf, readInto, taken}
-use Rattle.book.specs.ReadLaws.{Readable, readable, read-taken, into-taken, table-length, content-count}
 use Rattle.book.specs.Write.{contentOf, writeOf, writeInto}
 use Rattle.book.specs.WriteLaws.{write-done}
-use Rattle.book.specs.BookLaws.{writable, writes-back, reads-back}
+use Rattle.book.specs.BookLaws.{read-passed, Handed, read-handed, reads-back}
 use Rattle.book.specs.declared.reading.BookRead.{BookRead}
 use Rattle.book.specs.declared.writing.BookWritten.{BookWritten}
 use Rattle.host.specs.Host.{verdictBy, searched, hostChecks, hostNumber, hostInto}
@@ -38,17 +34,6 @@ module _ {A : Type 0} where
   judge-append [] ds refuse work = refl
   judge-append (c ∷ cs) ds refuse work =
       ap (λ (rest : A). cond (c .passed) rest (refuse (c .number) (c .place))) (judge-append cs ds refuse work)
-
-  -- an answer that no refusal gives is the work's
-  judge-worked : (cs : List Check) (refuse : ℕ → ℕ → A) (work : A) (f : A → ℕ) → ((i p : ℕ) → f (refuse i p) ≡ 0)
-      → 1 ≤ f (judge cs refuse work) → Passed cs
-  judge-worked [] refuse work f z h = tt
-  judge-worked (c ∷ cs) refuse work f z h = go (c .passed) refl h (judge-worked cs refuse work f z)
-    where
-      go : (p : Bool) → c .passed ≡ p → 1 ≤ f (cond p (judge cs refuse work) (refuse (c .number) (c .place)))
-          → (1 ≤ f (judge cs refuse work) → Passed cs) → (c .passed ≡ true) × Passed cs
-      go true e k ih = (e, ih k)
-      go false e k ih = absurd (omega (arith, z (c .number) (c .place)))
 
   -- where some check fails, the answer is its refusal whatever the work
   judge-fails : (cs : List Check) (refuse : ℕ → ℕ → A) (x y : A) → (Passed cs → ⊥) → judge cs refuse x ≡ judge cs refuse y
@@ -99,49 +84,6 @@ tableOf b = content editionOne b .table
 abbrev pub coresOf : List ℕ → ℕ
 coresOf b = content editionOne b .m
 
-module _ (b into : List ℕ) (h : readOf b (length into) .number ≡ done) where
-  -- the table and the core count that reading hands over pass the checks of a table
-  handed-fair : tableFault (take (3 * readOf b (length into) .n) (readInto b into)) (readOf b (length into) .m) .number ≡ done
-  handed-fair = writable _ _ _ (length b) (ap (λ (r : BookWritten). r .number) (writes-back b into b h (le-refl (length b)) .0)) .fair
-
-  -- 0 is no refusal: a refusal hands over no cores
-  read-passed : Passed (readChecks editionOne b (length into))
-  unfolding readOf
-  read-passed =
-      judge-worked (readChecks editionOne b (length into)) refused (taken (content editionOne b)) (λ (r : BookRead). r .m) (λ i p. refl)
-      (passed-valid _ _ handed-fair .some-cores)
-
-  good : Readable b (length into)
-  good = readable b (length into) read-passed
-
-  read-content : readOf b (length into) ≡ taken (content editionOne b)
-  read-content = read-taken b (length into) (passed-clear (readChecks editionOne b (length into)) read-passed)
-
-  read-count : readOf b (length into) .n ≡ getD b 4 0
-  read-count = ap (λ (r : BookRead). r .n) read-content ∙ content-count editionOne b
-
-  read-room : 3 * readOf b (length into) .n ≤ length into
-  read-room = rw read-count (good .space)
-
-  read-table : take (3 * readOf b (length into) .n) (readInto b into) ≡ tableOf b
-  read-table =
-      rw read-count
-      (ap (take (3 * getD b 4 0)) (into-taken b into (passed-clear (readChecks editionOne b (length into)) read-passed))
-      ∙ take-at (tableOf b) (drop (3 * getD b 4 0) into) (3 * getD b 4 0) (table-length editionOne b))
-
-  read-fair : tableFault (tableOf b) (coresOf b) .number ≡ done
-  read-fair = rw (read-table, read-content) at handed-fair
-
-  read-size : length b ≡ 512 * blocks editionOne (rowCount (tableOf b))
-  unfolding rowCount
-  read-size =
-      let count : rowCount (tableOf b) ≡ getD b 4 0 = omega (arith, table-length editionOne b, good .headed .few) in
-      good .headed .size ∙ ap (λ (n : ℕ). 512 * blocks editionOne n) (sym count)
-
--- words as the entry lends them to reading
-abbrev pub lent : List ℕ
-lent = replicate 288 0
-
 -- ---- the answer by the check that decides it
 
 module _ (b out : List ℕ) where
@@ -164,7 +106,7 @@ module _ (b out : List ℕ) where
     judge-room : {A : Type 0} (refuse : ℕ → ℕ → A) (work : A) → judge (hostChecks b (length out)) refuse work ≡ judge room refuse work
     judge-room refuse work =
         judge-append (readChecks editionOne b 288) room refuse work
-        ∙ judge-passed (readChecks editionOne b 288) refuse (judge room refuse work) (read-passed b lent h)
+        ∙ judge-passed (readChecks editionOne b 288) refuse (judge room refuse work) (read-passed b 288 h)
 
     -- the output is shorter than the book
     pub host-short : length out < length b → (hostNumber b (length out) ≡ short-output) × (hostInto b out ≡ out)
@@ -185,7 +127,7 @@ module _ (b out : List ℕ) where
       -- 0 with verdict 1, 4 with verdict 2
       pub host-number : ((hostNumber b (length out) ≡ done) × (verdictBy (tableOf b) (coresOf b) .kind ≡ 1))
           ⊎ ((hostNumber b (length out) ≡ blocked) × (verdictBy (tableOf b) (coresOf b) .kind ≡ 2))
-      host-number = rw (host-searched .0) (verdict-kind (tableOf b) (coresOf b) (read-fair b lent h))
+      host-number = rw (host-searched .0) (verdict-kind (tableOf b) (coresOf b) (read-handed b h .fair))
 
       -- what is written reads back as the same table and core count with the search's verdict
       pub host-reads : (into : List ℕ) → length (tableOf b) ≤ length into
@@ -195,8 +137,8 @@ module _ (b out : List ℕ) where
       host-reads into r =
           let words = tableOf b in
           let m = coresOf b in
-          let fair = read-fair b lent h in
-          let size = read-size b lent h in
+          let fair = read-handed b h .fair in
+          let size = read-handed b h .size in
           let written = searched-written words m out fair (omega (arith, size)) in
           let same : writeInto words m (verdictBy words m) out ≡ hostInto b out = written .1 ∙ rw (host-searched .1, size) refl in
           rw (size, ← same) (reads-back words m (verdictBy words m) out into (verdict-typed words m fair) (written .0) r)
@@ -206,7 +148,7 @@ pub host-verdict-ignored : (b c out : List ℕ) → readOf b 288 .number ≡ don
     → coresOf b ≡ coresOf c → (hostNumber b (length out) ≡ hostNumber c (length out)) × (hostInto b out ≡ hostInto c out)
 host-verdict-ignored b c out h k t m =
     let size : length b ≡ length c =
-    read-size b lent h ∙ ap (λ (w : List ℕ). 512 * blocks editionOne (rowCount w)) t ∙ sym (read-size c lent k)
+    read-handed b h .size ∙ ap (λ (w : List ℕ). 512 * blocks editionOne (rowCount w)) t ∙ sym (read-handed c k .size)
     in
     ⊎-elim
     (λ (l : leb (length c) (length out) ≡ true).
@@ -221,35 +163,16 @@ host-verdict-ignored b c out h k t m =
     (x .0 ∙ sym (y .0), x .1 ∙ sym (y .1)))
     (either (leb (length c) (length out)))
 
--- ---- what the code holds
+-- what reading handed over can be searched and written
+pub handed-fits : (b words : List ℕ) (r : BookRead) → Handed b 288 words r → (room : ℕ) → length b ≤ room
+    → let t = take (3 * r .n) words in (tableFault t (r .m) .number ≡ done) × (512 * blocks editionOne (rowCount t) ≤ room)
+handed-fits b words r h room l = rw (h .table, h .cores, ← h .size) (h .fair, l)
 
--- reading's answer and the words afterwards, where the number is 0
-pub record Handed (b words : List ℕ) (r : BookRead) : Type 0 where
-  pub number : readOf b 288 .number ≡ done
-  pub room : 3 * r .n ≤ 288
-  pub table : take (3 * r .n) words ≡ tableOf b
-  pub cores : r .m ≡ coresOf b
-  pub fair : tableFault (take (3 * r .n) words) (r .m) .number ≡ done
-  pub size : length b ≡ 512 * blocks editionOne (rowCount (take (3 * r .n) words))
-
-pub read-handed : (b words : List ℕ) (r : BookRead) → r ≡ readOf b 288 → words ≡ readInto b lent → r .number ≡ done → Handed b words r
-read-handed b words r e w d =
-    let number : readOf b 288 .number ≡ done = rw e at d in
-    rw (w, e)
-    (record {
-      number = number;
-      room = read-room b lent number;
-      table = read-table b lent number;
-      cores = ap (λ (r : BookRead). r .m) (read-content b lent number);
-      fair = handed-fair b lent number;
-      size = rw (read-table b lent number) (read-size b lent number);
-    })
-
--- the work, told of the words handed over
-pub handed-searched : (b words : List ℕ) (r : BookRead) → Handed b words r → (out : List ℕ) → length b ≤ length out
+-- the work, told of the words that reading handed over
+pub handed-searched : (b words : List ℕ) (r : BookRead) → Handed b 288 words r → (out : List ℕ) → length b ≤ length out
     → let t = take (3 * r .n) words in
     (foundOf t (r .m) 96 .number ≡ hostNumber b (length out))
     × (searched t (r .m) ++ drop (512 * blocks editionOne (rowCount t)) out ≡ hostInto b out)
 handed-searched b words r h out l =
-    let work = host-searched b out (h .number) l in
-    rw (← h .size, h .table, h .cores) (sym (work .0), sym (work .1))
+    let work = host-searched b out (h .read) l in
+    rw (h .table, h .cores, ← h .size) (sym (work .0), sym (work .1))

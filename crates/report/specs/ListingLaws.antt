@@ -1,6 +1,6 @@
 -- Laws of the listing: its lines by the masks that the code holds, the listing of a table by what the search answers, and of a book by what reading answers.
 -- Assumes nothing.
-use Prim.Native.Nat.{ℕ, zero, suc, _+_, _*_, _-_, _/_, _%_, _≤_, _<_}
+use Prim.Native.Nat.{ℕ, zero, suc, _+_, _*_, _-_, _/_, _≤_, _<_}
 use mathlib.Core.Path.{_≡_, refl, sym, ap, _∙_}
 use mathlib.Core.Logic.{_⊎_, inl, inr, ⊎-elim}
 use mathlib.Core.Bool.{Bool, true, false, _||_}
@@ -8,18 +8,16 @@ use mathlib.Core.List.{List, [], _∷_, _++_}
 use native.Mathlib.Omega.{arith}
 use native.Mathlib.Nat.{eq-or-lt-of-le}
 use native.Mathlib.Numerals.{add-one}
-use lib.Dec.{leb, eqb}
-use lib.ListN.{length, getD, take, drop}
-use lib.Seq.{take-suc, take-at}
-use borrow.Author.Tests.{le-leb, eq-eqb, ne-eqb}
-use Rattle.rows.specs.BoolLaws.{and-in}
+use lib.Dec.{eqb}
+use lib.ListN.{length, getD, take}
+use lib.Seq.{take-suc}
+use borrow.Author.Tests.{eq-eqb, ne-eqb}
 use Rattle.rows.specs.Judge.{Check, judge}
 use Rattle.rows.specs.Numbers.{done, blocked}
 use Rattle.rows.specs.Sets.{has, mask, setOf, none, withRow, withoutRow, without}
 use Rattle.rows.specs.SetLaws.{has-set-of, has-without, set-ext}
-use Rattle.rows.specs.Table.{table, rowCount, firstFault, tableFault}
-use Rattle.rows.specs.TableLaws.{row-count-most, fault-none}
-use Rattle.rows.specs.declared.table.Checked.{Checked}
+use Rattle.rows.specs.Table.{table, rowCount}
+use Rattle.rows.specs.TableLaws.{row-count-most}
 use Rattle.rows.specs.declared.sets.Set.{Set}
 use Rattle.test.specs.TestLaws.{used-ext}
 use Rattle.search.specs.Search.{elem}
@@ -28,9 +26,9 @@ use Rattle.search.specs.Answers.{placedOf, foundOf}
 use Rattle.search.specs.CallLaws.{placed-most, found-blocked, found-done}
 use Rattle.search.specs.declared.call.Found.{Found}
 use Rattle.book.specs.Layout.{editionOne}
-use Rattle.book.specs.Read.{content, readChecks, eachBlock, blockChecks, headChecks, bodyChecks, refused, taken, readOf, readInto}
-use Rattle.book.specs.FaultLaws.{Passed, passed-clear, judge-passed}
-use Rattle.book.specs.ReadLaws.{table-length, lowest-bad, readable, read-taken, into-taken}
+use Rattle.book.specs.Read.{content, readChecks, eachBlock, blockChecks, headChecks, bodyChecks, refused, taken, readOf}
+use Rattle.book.specs.FaultLaws.{Passed, judge-passed}
+use Rattle.book.specs.BookLaws.{Handed, read-handed}
 use Rattle.book.specs.declared.reading.BookRead.{BookRead}
 use Rattle.report.specs.Text.{lines}
 use Rattle.report.specs.Listing.{order-word, blocked-word, header, rowText, rowLine, atLevel, levelLine, memberLine, listed, refusedText, listingOf}
@@ -158,81 +156,45 @@ ends (c ∷ cs) n = go (c .passed) refl (ends cs (n .2))
 
 pub data Cases (b : List ℕ) : Type 0 where
   unread : readOf b 288 .number < 100 → (readOf b 288 .number ≡ done → ⊥) → listingOf b ≡ refusedText (readOf b 288 .number) → Cases b
-  read : Passed (readChecks editionOne b 288) → listingOf b ≡ listed (content editionOne b .table) (content editionOne b .m) → Cases b
+  read : readOf b 288 .number ≡ done → listingOf b ≡ listed (content editionOne b .table) (content editionOne b .m) → Cases b
 
 pub listing-cases : (b : List ℕ) → Cases b
 unfolding listingOf readOf
 listing-cases b = go (ends (readChecks editionOne b 288) (numbered-read b 288))
   where
     go : Ends (readChecks editionOne b 288) → Cases b
-    go (through p) = read p (judge-passed (readChecks editionOne b 288) _ _ p)
+    go (through p) =
+        let cs = readChecks editionOne b 288 in
+        read (ap (λ (r : BookRead). r .number) (judge-passed cs refused (taken (content editionOne b)) p)) (judge-passed cs _ _ p)
     go (stopped i p s l f) =
         let number : readOf b 288 .number ≡ i = ap (λ (r : BookRead). r .number) (f BookRead refused (taken (content editionOne b))) in
         unread (omega arith) (λ z. omega arith) (f (List ℕ) _ _ ∙ ap refusedText (sym number))
 
--- a book that was read: its core count and its table, and its listing by them
-pub record Taken (b into : List ℕ) (r : BookRead) : Type 0 where
-  pub some-cores : 1 ≤ r .m
-  pub most-cores : r .m ≤ 32
-  pub fits : 3 * r .n ≤ 288
-  pub table : take (3 * r .n) (readInto b into) ≡ content editionOne b .table
-  pub text : listingOf b ≡ listed (content editionOne b .table) (r .m)
+-- where reading answered r
+pub listing-refused : (b : List ℕ) (r : BookRead) → r ≡ readOf b 288 → (r .number ≡ done → ⊥) → listingOf b ≡ refusedText (r .number)
+listing-refused b r e h = rw e (go (listing-cases b))
+  where
+    go : Cases b → listingOf b ≡ refusedText (readOf b 288 .number)
+    go (unread l f t) = t
+    go (read d t) = absurd (h (ap (λ (x : BookRead). x .number) e ∙ d))
 
--- where reading has answered r, into words of which there are 288
-module _ (b : List ℕ) (r : BookRead) (e : r ≡ readOf b 288) where
-  pub listing-refused : (r .number ≡ done → ⊥) → listingOf b ≡ refusedText (r .number)
-  listing-refused h = rw e (go (listing-cases b))
-    where
-      go : Cases b → listingOf b ≡ refusedText (readOf b 288 .number)
-      go (unread l f t) = t
-      go (read p t) =
-          absurd (h (ap (λ (x : BookRead). x .number) (e ∙ read-taken b 288 (passed-clear (readChecks editionOne b 288) p))))
+pub listing-read : (b words : List ℕ) (r : BookRead) → Handed b 288 words r → listingOf b ≡ listed (take (3 * r .n) words) (r .m)
+listing-read b words r h = rw (h .table, h .cores) (go (listing-cases b))
+  where
+    go : Cases b → listingOf b ≡ listed (content editionOne b .table) (content editionOne b .m)
+    go (unread l f t) = absurd (f (h .read))
+    go (read d t) = t
 
-  pub listing-taken : (into : List ℕ) → length into ≡ 288 → r .number ≡ done → Taken b into r
-  unfolding content
-  listing-taken into h d = go (listing-cases b)
-    where
-      go : Cases b → Taken b into r
-      go (unread l f t) = absurd (f (ap (λ (x : BookRead). x .number) (sym e) ∙ d))
-      go (read p t) =
-          let x = content editionOne b in
-          let size = 3 * getD b 4 0 in
-          let clear = passed-clear (readChecks editionOne b 288) p in
-          let good = readable b 288 p in
-          rw (e ∙ read-taken b 288 clear)
-          (record {
-            some-cores = good .headed .some-cores;
-            most-cores = good .headed .most-cores;
-            fits = good .space;
-            table =
-                ap (take size) (into-taken b into (rw h clear)) ∙ take-at (x .table) (drop size into) size (table-length editionOne b);
-            text = t;
-          })
-
--- ---- a book that was read is searched to an end
-
--- its table passes its checks
-fair : (b : List ℕ) → Passed (readChecks editionOne b 288) → tableFault (content editionOne b .table) (content editionOne b .m) .number ≡ done
-unfolding content firstFault
-fair b p =
-    let words = content editionOne b .table in
-    let good = readable b 288 p in
-    let m = getD b 3 0 in
-    let n = length words / 3 in
-    let rows : n ≡ getD b 4 0 = omega (arith, table-length editionOne b) in
-    let sized = and-in (eqb (length words % 3) 0) (leb n 96) (eq-eqb (length words % 3) 0 (omega (arith, table-length editionOne b))) (le-leb n 96 (omega (arith, good .headed .few))) in
-    let cored = and-in (leb 1 m) (leb m 32) (le-leb 1 m (good .headed .some-cores)) (le-leb m 32 (good .headed .most-cores)) in
-    ap (λ (c : Checked). c .number) (fault-none words m sized cored (omega (arith, good .rows, lowest-bad b n rows)))
-
--- so the search answers 0 or 4, and BLOCKED stands for 4 alone
-pub searched : (b : List ℕ) → Passed (readChecks editionOne b 288)
+-- of a book that was read the search answers 0 or 4, so that BLOCKED stands for 4 alone
+pub searched : (b : List ℕ) → readOf b 288 .number ≡ done
     → let found = foundOf (content editionOne b .table) (content editionOne b .m) 96 in (found .number ≡ done) ⊎ (found .number ≡ blocked)
-searched b p =
+searched b h =
+    let fair = read-handed b h .fair in
     let words = content editionOne b .table in
     let m = content editionOne b .m in
     ⊎-elim
     (λ (e : length (placedOf words m) ≡ rowCount words).
-    inl (ap (λ (f : Found). f .number) (found-done words m 96 (fair b p) (row-count-most words) e)))
+    inl (ap (λ (f : Found). f .number) (found-done words m 96 fair (row-count-most words) e)))
     (λ (l : length (placedOf words m) < rowCount words).
-    inr (ap (λ (f : Found). f .number) (found-blocked words m 96 (fair b p) (row-count-most words) l)))
+    inr (ap (λ (f : Found). f .number) (found-blocked words m 96 fair (row-count-most words) l)))
     (eq-or-lt-of-le (placed-most words m))

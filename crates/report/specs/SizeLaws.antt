@@ -25,11 +25,10 @@ use Rattle.search.specs.Answers.{placedOf, foundOf, writtenOf, Demanded}
 use Rattle.search.specs.OrderLaws.{elem-times}
 use Rattle.search.specs.CallLaws.{placed-most, found-demanded}
 use Rattle.book.specs.Layout.{editionOne}
-use Rattle.book.specs.Read.{content, readChecks, readOf}
-use Rattle.book.specs.FaultLaws.{Passed}
-use Rattle.book.specs.ReadLaws.{readable}
+use Rattle.book.specs.Read.{content, readOf}
 use Rattle.report.specs.TextLaws.{decimal-short, lines-most}
 use Rattle.report.specs.Listing.{order-word, blocked-word, share, load, header, rowLine, levelLine, memberLine, listed, refusedText, listingOf}
+use Rattle.book.specs.BookLaws.{read-handed}
 use Rattle.report.specs.ListingLaws.{Cases, unread, read, listing-cases}
 
 -- ---- the numbers
@@ -149,14 +148,10 @@ module _ (words : List ℕ) (m : ℕ) where
 pub refused-most : (number : ℕ) → number < 10 ^ 10 → length (refusedText number) ≤ 19
 refused-most number h = simp length-append (omega (arith, decimal-short 9 number h))
 
-cores : (b : List ℕ) → Passed (readChecks editionOne b 288) → content editionOne b .m ≤ 32
-unfolding content
-cores b p = readable b 288 p .headed .most-cores
-
 -- the text of any book
 pub listing-most : (b : List ℕ) → length (listingOf b) ≤ 8192
 listing-most b = go (listing-cases b)
   where
     go : Cases b → length (listingOf b) ≤ 8192
     go (unread l r e) = rw e (omega (arith, refused-most (readOf b 288 .number) (omega (arith, l))))
-    go (read p e) = rw e (listed-most (content editionOne b .table) (content editionOne b .m) (cores b p))
+    go (read d e) = let h = read-handed b d in rw e (listed-most (content editionOne b .table) (content editionOne b .m) (omega (arith, h .cores, h .most-cores)))

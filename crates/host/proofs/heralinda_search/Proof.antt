@@ -5,7 +5,8 @@ use native.Mathlib.Omega.{arith}
 use lib.Seq.{length-take-le}
 use borrow.Author.Needs.{needs}
 use Rattle.book.specs.declared.reading.BookRead.{BookRead}
-use Rattle.host.specs.HostLaws.{host-refused, host-short, Handed, read-handed, handed-searched}
+use Rattle.book.specs.BookLaws.{Handed, handed, lent}
+use Rattle.host.specs.HostLaws.{host-refused, host-short, handed-fits, handed-searched}
 use Rattle.host.proofs.heralinda_search.Statement.{statement}
 use Rattle.host.proofs.heralinda_search.Tie as tie
 
@@ -27,20 +28,20 @@ returns c =
 abbrev entry : tie.Else1 → tie.Start
 entry c = c .before .before .before .before .before .before .before
 
-taken : (c : tie.Else1) → Handed (entry c .args .book .now) (c .before .before .before .read .last .1 .0) (c .before .before .before .read .result)
-taken c = let read = c .before .before .before .read in read-handed _ _ _ (read .ensures .0) (read .ensures .1) (c .if1 .left)
+taken : (c : tie.Else1) → Handed (entry c .args .book .now) 288 (c .before .before .before .read .last .1 .0) (c .before .before .before .read .result)
+taken c = let read = c .before .before .before .read in handed _ lent _ _ (read .ensures .0) (read .ensures .1) (c .if1 .left)
 
 returns-2 : tie.Need-returns-2
 returns-2 c =
     let a = entry (c .before) .args in
-    let short = host-short (a .book .now) (a .out .now) (taken (c .before) .number) (c .if2 .taken) in
+    let short = host-short (a .book .now) (a .out .now) (taken (c .before) .read) (c .if2 .taken) in
     (sym (short .0), sym (short .1))
 
 mul-words : tie.Need-mul-words
-mul-words c = omega (arith, taken (c .before .before) .room)
+mul-words c = omega (arith, taken (c .before .before) .fits)
 
 array-share-prefix-words : tie.Need-array-share-prefix-words
-array-share-prefix-words c = omega (arith, taken (c .before .before) .room)
+array-share-prefix-words c = omega (arith, taken (c .before .before) .fits)
 
 slice-aggregate-search-into : tie.Need-slice-aggregate-search-into
 slice-aggregate-search-into c = sym (length-take-le _ _ (array-share-prefix-words (c .before)))
@@ -48,8 +49,7 @@ slice-aggregate-search-into c = sym (length-take-le _ _ (array-share-prefix-word
 search-into-requires : tie.Need-search-into-requires
 search-into-requires c κs =
     let fits = c .before .before .before in
-    let h = taken (fits .before) in
-    (h .fair, rw (← h .size) (fits .if2 .left))
+    handed-fits _ _ _ (taken (fits .before)) _ (fits .if2 .left)
 
 same-length : tie.Need-same-length
 same-length c = search needs

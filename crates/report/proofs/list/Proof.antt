@@ -5,13 +5,14 @@ use mathlib.Core.Path.{_≡_, sym, _∙_}
 use mathlib.Core.List.{List}
 use native.Mathlib.Omega.{arith}
 use native.Mathlib.Nat.{zero-add}
-use lib.ListN.{length, replicate, length-replicate}
+use lib.ListN.{length, length-replicate}
 use lib.Seq.{length-take-le}
 use borrow.Author.Needs.{needs}
 use Rattle.book.specs.Read.{readOf}
 use Rattle.report.specs.Text.{over}
 use Rattle.report.specs.TextLaws.{Puts}
-use Rattle.report.specs.ListingLaws.{Taken, listing-refused, listing-taken}
+use Rattle.book.specs.BookLaws.{Handed, handed, lent}
+use Rattle.report.specs.ListingLaws.{listing-refused, listing-read}
 use Rattle.report.proofs.list.Statement.{statement}
 use Rattle.report.proofs.list.Tie as tie
 
@@ -28,8 +29,9 @@ answer c = rw (length-replicate {A = ℕ} 288 0) at (c .read .ensures .0)
 size : (c : tie.After-read) → length (c .read .last .1 .0) ≡ 288
 size c = c .read .kept .1 .0
 
-good : (c : tie.Else1) → Taken (entry (c .before .before .before) .args .book .now) (replicate 288 0) (c .before .before .before .read .result)
-good c = listing-taken _ _ (answer (c .before .before .before)) (replicate 288 0) (length-replicate {A = ℕ} 288 0) (c .if1 .left)
+good : (c : tie.Else1)
+    → Handed (entry (c .before .before .before) .args .book .now) 288 (c .before .before .before .read .last .1 .0) (c .before .before .before .read .result)
+good c = let read = c .before .before .before .read in handed _ lent _ _ (read .ensures .0) (read .ensures .1) (c .if1 .left)
 
 slice-aggregate-read : tie.Need-slice-aggregate-read
 slice-aggregate-read c = search needs
@@ -66,7 +68,7 @@ same-length-2 c = search needs
 returns-2 : tie.Need-returns-2
 returns-2 c =
     let book = good (c .before .before .before .before .before .before) in
-    answers (rw (book .text) (rw (c .before .before .before .before .before .before .before .before .before .read .ensures .1, book .table) at (c .before .before .put-table .ensures)))
+    answers (rw (listing-read _ _ _ book) (c .before .before .put-table .ensures))
 
 pub list-spec : {M : Type 1} → statement M
 list-spec =
