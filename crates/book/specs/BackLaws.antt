@@ -15,13 +15,13 @@ use Rattle.rows.specs.Sums.{first}
 use Rattle.rows.specs.NumberLaws.{div-mono}
 use Rattle.rows.specs.SumLaws.{first-is}
 use Rattle.rows.specs.Table.{inRange}
+use Rattle.rows.specs.JudgeLaws.{Passed, passed-append}
 use Rattle.book.specs.Bytes.{byte, big, little, checkOf, run}
 use Rattle.book.specs.ByteLaws.{run-is, all-make, check-ext, check-fits, little-ext, little-byte, byte-low, byte-high, big-two, big-four}
 use Rattle.book.specs.Form.{formed}
 use Rattle.book.specs.Layout.{Edition, longest, Content, blocks, head, inner, opened, sealed, at, bookOf}
 use Rattle.book.specs.LayoutLaws.{Fit, book-length, book-at, sealed-open, sealed-check, at-block, at-inner, at-head, head-order, head-group, head-more}
 use Rattle.book.specs.Read.{ofBlock, place, wordAt, content, whole, numbered, checked, eachBlock, blockChecks, headChecks, spelled, rowWords, lowestBad, bodyChecks, readChecks}
-use Rattle.book.specs.FaultLaws.{Passed, passed-append}
 
 pub record Legal (e : Edition) (x : Content) : Type 0 where
   pub some-cores : 1 ≤ x .m

@@ -21,6 +21,7 @@ use Rattle.rows.specs.SetLaws.{FitsWords}
 use Rattle.rows.specs.Table.{inRange, wordsAt, faulty, rowCount, firstFault, tableChecks, tableFault}
 use Rattle.rows.specs.declared.table.Checked.{Checked}
 use Rattle.rows.specs.TableLaws.{passed-valid, in-range, fault-none}
+use Rattle.rows.specs.JudgeLaws.{Passed, append-passed, Refusing, refusing-append, done-passed, judge-works}
 use Rattle.book.specs.Bytes.{byte, big, sum16, checkOf, run}
 use Rattle.book.specs.ByteLaws.{run-is, all-at}
 use Rattle.book.specs.Form.{formed}
@@ -31,7 +32,7 @@ use Rattle.book.specs.Write.{contentOf, bookChecks, writeChecks, writeOf
 use Rattle.book.specs.WriteLaws.{write-done}
 use Rattle.book.specs.Read.{ofBlock, content, verdictOf, checked, eachBlock, blockChecks, headChecks, bodyChecks, spelled, readChecks, refused, taken, readOf, readInto}
 use Rattle.book.specs.Fault.{faultOf}
-use Rattle.book.specs.FaultLaws.{Passed, append-passed, passed-clear, Refusing, refusing-append, done-passed, judge-passed}
+use Rattle.book.specs.FaultLaws.{passed-clear}
 use Rattle.book.specs.ReadLaws.{content-count, table-length, lowest-bad, Readable, readable, read-taken, into-taken}
 use Rattle.book.specs.BackLaws.{Legal, content-back, checks-back}
 use Rattle.book.specs.declared.checks.Fault.the-variants.{Clear}
@@ -79,7 +80,7 @@ table-fair : (words : List ℕ) (m : ℕ) → Passed (tableChecks words m) → t
 unfolding tableFault
 table-fair words m p =
     ap (λ (c : Checked). c .number)
-    (judge-passed (tableChecks words m) (λ number place. record { number = number; row = place }) (record { number = done; row = 0 }) p)
+    (judge-works (tableChecks words m) (λ number place. record { number = number; row = place }) (record { number = done; row = 0 }) p)
 
 pub writable : (words : List ℕ) (m : ℕ) (v : Verdict) (room : ℕ) → writeOf words m v room .number ≡ done → Writable words m v room
 unfolding writeOf

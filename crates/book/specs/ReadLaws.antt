@@ -17,9 +17,10 @@ use Rattle.rows.specs.Table.{inRange, wordsAt, readAt, faulty}
 use Rattle.rows.specs.declared.table.Row.{Row}
 use Rattle.rows.specs.declared.table.RowRead.the-variants.{Fine, Fault}
 use Rattle.rows.specs.Judge.{Check}
+use Rattle.rows.specs.JudgeLaws.{Passed, append-passed}
 use Rattle.book.specs.ByteLaws.{run-at, run-length}
 use Rattle.book.specs.Fault.{faultOf}
-use Rattle.book.specs.FaultLaws.{Passed, append-passed, judge-told, fault-first, fault-next}
+use Rattle.book.specs.FaultLaws.{judge-told, fault-first, fault-next}
 use Rattle.book.specs.Form.{formed}
 use Rattle.book.specs.Layout.{Edition, editionOne, longest, blocks}
 use Rattle.book.specs.Read.{wordAt, verdictOf, content, whole, numbered, checked, eachBlock, spelled, lowestBad, blockChecks, headChecks, bodyChecks, readChecks, refused, taken, readOf, readInto}

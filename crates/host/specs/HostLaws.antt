@@ -4,7 +4,7 @@
 use Prim.Native.Nat.{ℕ, _*_, _≤_, _<_}
 use mathlib.Core.Path.{_≡_, refl, sym, ap, _∙_}
 use mathlib.Core.Logic.{_⊎_, ⊎-elim}
-use mathlib.Core.Bool.{Bool, true, false, cond}
+use mathlib.Core.Bool.{true, false}
 use mathlib.Core.List.{List, [], _∷_, _++_}
 use native.Mathlib.Omega.{arith}
 use lib.Dec.{leb}
@@ -14,8 +14,8 @@ use Rattle.rows.specs.BoolLaws.{either}
 use Rattle.rows.specs.Judge.{Check, check, judge}
 use Rattle.rows.specs.Numbers.{done, blocked, short-output}
 use Rattle.rows.specs.Table.{rowCount, tableFault}
+use Rattle.rows.specs.JudgeLaws.{Passed, judge-works, judge-append, judge-fails, judge-same, judge-field}
 use Rattle.search.specs.Answers.{foundOf}
-use Rattle.book.specs.FaultLaws.{Passed, judge-passed}
 use Rattle.book.specs.Layout.{editionOne, blocks}
 use Rattle.book.specs.Read.{content, readChecks, refused, readOf, readInto, taken}
 use Rattle.book.specs.Write.{contentOf, writeOf, writeInto}
@@ -25,44 +25,6 @@ use Rattle.book.specs.declared.reading.BookRead.{BookRead}
 use Rattle.book.specs.declared.writing.BookWritten.{BookWritten}
 use Rattle.host.specs.Host.{verdictBy, searched, hostChecks, hostNumber, hostInto}
 use Rattle.host.specs.VerdictLaws.{verdict-formed, verdict-typed, verdict-kind}
-
--- ---- checks in their order
-
-module _ {A : Type 0} where
-  judge-append : (cs ds : List Check) (refuse : ℕ → ℕ → A) (work : A)
-      → judge (cs ++ ds) refuse work ≡ judge cs refuse (judge ds refuse work)
-  judge-append [] ds refuse work = refl
-  judge-append (c ∷ cs) ds refuse work =
-      ap (λ (rest : A). cond (c .passed) rest (refuse (c .number) (c .place))) (judge-append cs ds refuse work)
-
-  -- where some check fails, the answer is its refusal whatever the work
-  judge-fails : (cs : List Check) (refuse : ℕ → ℕ → A) (x y : A) → (Passed cs → ⊥) → judge cs refuse x ≡ judge cs refuse y
-  judge-fails [] refuse x y h = absurd (h tt)
-  judge-fails (c ∷ cs) refuse x y h = go (c .passed) refl (judge-fails cs refuse x y)
-    where
-      go : (p : Bool) → c .passed ≡ p → ((Passed cs → ⊥) → judge cs refuse x ≡ judge cs refuse y)
-          → cond p (judge cs refuse x) (refuse (c .number) (c .place)) ≡ cond p (judge cs refuse y) (refuse (c .number) (c .place))
-      go true e ih = ih (λ q. h (e, q))
-      go false e ih = refl
-
-  judge-same : (cs : List Check) (x : A) → judge cs (λ number place. x) x ≡ x
-  judge-same [] x = refl
-  judge-same (c ∷ cs) x = go (c .passed) (judge-same cs x)
-    where
-      go : (p : Bool) → judge cs (λ number place. x) x ≡ x → cond p (judge cs (λ number place. x) x) x ≡ x
-      go true ih = ih
-      go false ih = refl
-
-judge-field : {A B : Type 0} (f : A → B) (cs : List Check) (refuse : ℕ → ℕ → A) (work : A)
-    → f (judge cs refuse work) ≡ judge cs (λ number place. f (refuse number place)) (f work)
-judge-field f [] refuse work = refl
-judge-field {A} {B} f (c ∷ cs) refuse work = go (c .passed) (judge-field f cs refuse work)
-  where
-    go : (p : Bool) → f (judge cs refuse work) ≡ judge cs (λ number place. f (refuse number place)) (f work)
-        → f (cond p (judge cs refuse work) (refuse (c .number) (c .place)))
-        ≡ cond p (judge cs (λ number place. f (refuse number place)) (f work)) (f (refuse (c .number) (c .place)))
-    go true ih = ih
-    go false ih = refl
 
 -- ---- the book that is written
 
@@ -96,7 +58,7 @@ module _ (b out : List ℕ) where
   host-refused h =
       let cs = readChecks editionOne b 288 in
       let x = content editionOne b in
-      let fails : Passed cs → ⊥ = λ p. h (ap (λ (r : BookRead). r .number) (judge-passed cs refused (taken x) p)) in (
+      let fails : Passed cs → ⊥ = λ p. h (ap (λ (r : BookRead). r .number) (judge-works cs refused (taken x) p)) in (
         judge-append cs room (λ number place. number) _ ∙ judge-fails cs (λ number place. number) _ done fails
             ∙ sym (judge-field (λ (r : BookRead). r .number) cs refused (taken x)),
         judge-append cs room (λ number place. out) _ ∙ judge-fails cs (λ number place. out) _ out fails ∙ judge-same cs out,
@@ -106,7 +68,7 @@ module _ (b out : List ℕ) where
     judge-room : {A : Type 0} (refuse : ℕ → ℕ → A) (work : A) → judge (hostChecks b (length out)) refuse work ≡ judge room refuse work
     judge-room refuse work =
         judge-append (readChecks editionOne b 288) room refuse work
-        ∙ judge-passed (readChecks editionOne b 288) refuse (judge room refuse work) (read-passed b 288 h)
+        ∙ judge-works (readChecks editionOne b 288) refuse (judge room refuse work) (read-passed b 288 h)
 
     -- the output is shorter than the book
     pub host-short : length out < length b → (hostNumber b (length out) ≡ short-output) × (hostInto b out ≡ out)

@@ -19,6 +19,7 @@ use Rattle.rows.specs.SetLaws.{has-set-of, has-without, set-ext}
 use Rattle.rows.specs.Table.{table, rowCount}
 use Rattle.rows.specs.TableLaws.{row-count-most}
 use Rattle.rows.specs.declared.sets.Set.{Set}
+use Rattle.rows.specs.JudgeLaws.{Passed, judge-works}
 use Rattle.test.specs.TestLaws.{used-ext}
 use Rattle.search.specs.Search.{elem}
 use Rattle.search.specs.Demand.{among}
@@ -27,7 +28,6 @@ use Rattle.search.specs.CallLaws.{placed-most, found-blocked, found-done}
 use Rattle.search.specs.declared.call.Found.{Found}
 use Rattle.book.specs.Layout.{editionOne}
 use Rattle.book.specs.Read.{content, readChecks, eachBlock, blockChecks, headChecks, bodyChecks, refused, taken, readOf}
-use Rattle.book.specs.FaultLaws.{Passed, judge-passed}
 use Rattle.book.specs.BookLaws.{Handed, read-handed}
 use Rattle.book.specs.declared.reading.BookRead.{BookRead}
 use Rattle.report.specs.Text.{lines}
@@ -165,7 +165,7 @@ listing-cases b = go (ends (readChecks editionOne b 288) (numbered-read b 288))
     go : Ends (readChecks editionOne b 288) → Cases b
     go (through p) =
         let cs = readChecks editionOne b 288 in
-        read (ap (λ (r : BookRead). r .number) (judge-passed cs refused (taken (content editionOne b)) p)) (judge-passed cs _ _ p)
+        read (ap (λ (r : BookRead). r .number) (judge-works cs refused (taken (content editionOne b)) p)) (judge-works cs _ _ p)
     go (stopped i p s l f) =
         let number : readOf b 288 .number ≡ i = ap (λ (r : BookRead). r .number) (f BookRead refused (taken (content editionOne b))) in
         unread (omega arith) (λ z. omega arith) (f (List ℕ) _ _ ∙ ap refusedText (sym number))

@@ -7,4 +7,5 @@ pub mod BoolLaws
 pub mod NumberLaws
 pub mod SumLaws
 pub mod SetLaws
+pub mod JudgeLaws
 pub mod TableLaws
