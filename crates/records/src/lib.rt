@@ -1,4 +1,4 @@
-// The search over a lent list of task records.
+// The search over a lent list of task records, for callers in Rattle, C and Rust.
 ghost use mathlib.Core.Path.{_≡_};
 ghost use lib.ListN.{length};
 ghost use Rattle.search.specs.Answers.{foundOf, writtenOf};
@@ -77,8 +77,10 @@ fn search_copy(table: Flat, m: u32, out: &mut [u8]) -> Found
     search::search(&words[..end], m, out)
 }
 
-// The search of the tasks: the answer that their flat words get.
-pub fn search_records(tasks: &[Task], m: u32, out: &mut [u8]) -> Found
+// The search of the tasks: the answer that their flat words get. Callers in C and Rust declare Task, Found and Set
+// again, so these three have C's layout.
+#[no_mangle]
+pub extern "C" fn heralinda_search_records(tasks: &[Task], m: u32, out: &mut [u8]) -> Found
     ensures { λ r. ⌜ r ≡ foundOf (flat (now (tasks .entry))) m (length (now (out .entry))) ⌝ }
     ensures { λ r. ⌜ now (out .exit) ≡ writtenOf (flat (now (tasks .entry))) m (now (out .entry)) ⌝ }
 {

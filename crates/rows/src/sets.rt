@@ -2,6 +2,7 @@
 ghost use mathlib.Core.Path.{_≡_};
 ghost use Rattle.rows.specs.Sets.{has, withRow, withoutRow, size, within, below};
 
+#[repr(C)]
 pub struct Set {
     pub low: u64,
     pub high: u64,

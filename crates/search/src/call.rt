@@ -15,6 +15,7 @@ use rows::Set;
 use rows::numbers;
 
 // The search's answer: the number, with 3 the lowest row at fault, with 4 the blocked group, and the tests made.
+#[repr(C)]
 pub struct Found {
     pub number: u32,
     pub row: usize,

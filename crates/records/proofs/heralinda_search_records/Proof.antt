@@ -55,10 +55,10 @@ use Rattle.records.proofs.search_copy as search-copy
 use Rattle.records.proofs.search_copy.Symbol as search-copy-def
 use Rattle.records.proofs.search_copy.Symbol.{name as #records·search-copy}
 use Rattle.records.proofs.search_copy.Met as search-copy-thm
-use Rattle.records.proofs.search_records.Key.{name as #records·search-records}
-use Rattle.records.proofs.search_records as entry
-use Rattle.records.proofs.search_records.Statement as stated
-use Rattle.records.proofs.search_records.Code as code
+use Rattle.records.proofs.heralinda_search_records.Key.{name as #records·heralinda-search-records}
+use Rattle.records.proofs.heralinda_search_records as entry
+use Rattle.records.proofs.heralinda_search_records.Statement as stated
+use Rattle.records.proofs.heralinda_search_records.Code as code
 
 -- a task, the words copied, the answer
 abbrev R : RattleType
@@ -197,11 +197,11 @@ module _ {M : Type 1} (𝓤 : URA M) (H : Heap 𝓤) (A : Atoms 𝓤) (W : Given
   entry-meets = walk-meets 𝓤 H A entry.ended stayed W (goes-none-slice 𝓤 H A W 2 (0 ∷ []) tt (plain (λ _. R)) yes, (goes-none 𝓤 H A W 2 (λ _. u32) yes (λ κs x f. refl), (goes-gave-slice 𝓤 H A W 2 1 tt (plain (λ _. u8)), tt)))
       (entry.clauses 𝓤 H A mem run) (WpFn 𝓤 H (𝓣 .C) (𝓣 .Λ) code.function) (WpFn-mono 𝓤 H (W .laws) 𝓣 code.function) entry-walks
 
-pub search-records-spec : {M : Type 1} → stated.statement M
+pub heralinda-search-records-spec : {M : Type 1} → stated.statement M
 unfolding code.routine tablesOf
-search-records-spec 𝓤 H 𝓜 𝓖 𝓡 =
+heralinda-search-records-spec 𝓤 H 𝓜 𝓖 𝓡 =
     entered 𝓤 H (tripleOf 𝓤 H (𝓖 .A) entry.signature (entry.spec 𝓤 H (𝓖 .A) (𝓜 .mem) (𝓡 .run)))
-    (tables 𝓤 H 𝓜 𝓡 code.env .C) (tables 𝓤 H 𝓜 𝓡 code.env .Λ) #records·search-records code.function (code.unfolded 𝓤 H 𝓜 𝓡)
+    (tables 𝓤 H 𝓜 𝓡 code.env .C) (tables 𝓤 H 𝓜 𝓡 code.env .Λ) #records·heralinda-search-records code.function (code.unfolded 𝓤 H 𝓜 𝓡)
     (entry-meets 𝓤 H (𝓖 .A) (givenOf 𝓤 H 𝓜 𝓖) (𝓜 .mem) (𝓡 .run) (tablesOf 𝓤 H 𝓜 (tables 𝓤 H 𝓜 𝓡 code.env))
     (cited 𝓤 H (Copied 𝓤 H (𝓖 .A) (𝓜 .mem) (𝓡 .run)) 𝓜 𝓡 code.env #records·copied copied-def.routine code.calls-records·copied (copied-thm.met 𝓤 H 𝓜 𝓖 𝓡))
     (cited 𝓤 H (SearchCopy 𝓤 H (𝓖 .A) (𝓜 .mem) (𝓡 .run)) 𝓜 𝓡 code.env #records·search-copy search-copy-def.routine code.calls-records·search-copy (search-copy-thm.met 𝓤 H 𝓜 𝓖 𝓡)))
