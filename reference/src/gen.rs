@@ -3,12 +3,14 @@
 
 mod books;
 mod faults;
+mod records;
 pub(crate) mod rng;
 mod steps;
 mod systematic;
 pub(crate) mod tables;
 
 pub use books::{host_cases, Books};
+pub use records::records_cases;
 
 use crate::book::{book_length, book_of, Verdict};
 use crate::exam::{refuses_before_work, Case};
