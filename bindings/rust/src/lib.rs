@@ -1,8 +1,14 @@
-//! The entry of Heralinda for build tools in Rust: `search` lends a timing book and an output
-//! to the library.
+//! The entries of Heralinda for build tools in Rust: `search` lends a timing book and an output
+//! to the library, `search_records` a list of tasks and an output.
 //!
-//! The library, `libhost.a`, is for x86-64. On other targets this package compiles without
-//! `search`, and a warning says so.
+//! The library, `libhost.a` and `librecords.a`, is for x86-64. On other targets this package
+//! compiles without the two functions, and a warning says so.
+
+mod records;
+
+#[cfg(target_arch = "x86_64")]
+pub use records::search_records;
+pub use records::{Found, Set, Task};
 
 #[cfg(target_arch = "x86_64")]
 extern "C" {
