@@ -1,8 +1,15 @@
 //! Compares the answers of a program, case by case, with those expected.
 
+mod all;
+mod listings;
+
+pub use all::{compare_all, Comparison};
+pub use listings::compare_listings;
+
 use crate::exam::{refuses_before_work, Answer};
 use crate::program::Program;
 use std::io;
+use std::ops::AddAssign;
 use std::process::ExitCode;
 
 const BATCH: usize = 4000;
@@ -24,6 +31,14 @@ pub struct Tally {
     pub inputs: usize,
     pub refused: usize,
     pub differences: usize,
+}
+
+impl AddAssign for Tally {
+    fn add_assign(&mut self, more: Tally) {
+        self.inputs += more.inputs;
+        self.refused += more.refused;
+        self.differences += more.differences;
+    }
 }
 
 impl Tally {

@@ -2,6 +2,7 @@
 
 use crate::exam::KINDS;
 use crate::program::Program;
+use std::time::Duration;
 
 /// `PATH... [--kinds 1,2,3] [--inputs N] [--seed S] [-- ARGUMENT...]`
 #[derive(Clone, Debug, PartialEq, Eq)]
@@ -78,6 +79,59 @@ impl ProgramOptions {
         let path = arguments.next().ok_or("a program is needed")?;
         let program = Program { path, arguments: arguments.collect() };
         Ok(ProgramOptions { inputs, seed, program })
+    }
+}
+
+/// How far a comparison goes.
+#[derive(Clone, Copy, Debug, PartialEq, Eq)]
+pub enum Extent {
+    Inputs(usize),
+    Time(Duration),
+}
+
+/// At least one: a comparison of nothing would find no difference.
+fn inputs(name: &str, text: Option<String>) -> Result<Extent, String> {
+    match number(name, text)? {
+        0 => Err(format!("{name} needs a number above 0")),
+        inputs => Ok(Extent::Inputs(inputs)),
+    }
+}
+
+fn minutes(name: &str, text: Option<String>) -> Result<Extent, String> {
+    let minutes: f64 = number(name, text)?;
+    let time = Duration::try_from_secs_f64(60.0 * minutes);
+    time.map(Extent::Time).map_err(|fault| format!("{name}: {fault}"))
+}
+
+/// `(--inputs N | --minutes M) [--kinds 1,2,3] [--seed S] -- RUN [ARGUMENT...]`
+#[derive(Clone, Debug, PartialEq, Eq)]
+pub struct AllOptions {
+    pub extent: Extent,
+    pub kinds: Vec<u8>,
+    pub seed: u64,
+    pub runner: Program,
+}
+
+impl AllOptions {
+    pub fn parse(arguments: impl Iterator<Item = String>) -> Result<AllOptions, String> {
+        let mut arguments = arguments.skip(1);
+        let (mut extent, mut seed) = (None, 1);
+        let mut all_kinds = KINDS.iter().map(|&(kind, _)| kind).collect();
+        loop {
+            let name = arguments.next().ok_or("-- and a program are needed")?;
+            match name.as_str() {
+                "--inputs" => extent = Some(inputs(&name, arguments.next())?),
+                "--minutes" => extent = Some(minutes(&name, arguments.next())?),
+                "--kinds" => all_kinds = kinds(arguments.next())?,
+                "--seed" => seed = number(&name, arguments.next())?,
+                "--" => break,
+                _ => return Err(format!("{name} is no option")),
+            }
+        }
+        let extent = extent.ok_or("--inputs or --minutes is needed")?;
+        let path = arguments.next().ok_or("a program is needed")?;
+        let runner = Program { path, arguments: arguments.collect() };
+        Ok(AllOptions { extent, kinds: all_kinds, seed, runner })
     }
 }
 

@@ -18,6 +18,12 @@ pub struct Run {
 }
 
 impl Program {
+    /// The program with one argument more.
+    pub fn with(&self, argument: &str) -> Program {
+        let arguments = [&self.arguments[..], &[argument.to_string()]].concat();
+        Program { path: self.path.clone(), arguments }
+    }
+
     pub fn start(&self, input: Vec<u8>) -> io::Result<Run> {
         let mut child = Command::new(&self.path)
             .args(&self.arguments)

@@ -1,6 +1,6 @@
-//! Answers by the independent definitions as the program `exam` does, with `--host` as
-//! `examine` does, with `--listing` as the listing program. `--break K` corrupts every
-//! K-th answer; a listing is one answer.
+//! Answers by the independent definitions as the program `exam` does, with `--host` or `examine`
+//! as `examine` does, with `--listing` or `listing` as the listing program. `--break K` corrupts
+//! every K-th answer; a listing is one answer.
 #![forbid(unsafe_code)]
 
 use reference::comparison::Asked;
@@ -25,10 +25,10 @@ fn all_answers<C: Asked>(input: &[u8], decode: fn(&mut Reader) -> Option<C>) -> 
 }
 
 fn answers(input: &[u8]) -> Vec<Vec<u8>> {
-    let is_asked = |option: &str| env::args().any(|argument| argument == option);
-    if is_asked("--listing") {
+    let is_asked = |names: [&str; 2]| env::args().any(|argument| names.contains(&&argument[..]));
+    if is_asked(["--listing", "listing"]) {
         vec![listing(input).into_bytes()]
-    } else if is_asked("--host") {
+    } else if is_asked(["--host", "examine"]) {
         all_answers(input, HostCase::decode)
     } else {
         all_answers(input, Case::decode)
