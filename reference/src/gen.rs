@@ -1,8 +1,9 @@
-//! Cases of every kind, the same for the same seed: the K cases, then a mix of
-//! full ranges, malformed inputs, edges and realistic tables.
+//! Cases of every kind, the same for the same seed: the K cases and those at a limit, then
+//! a mix of full ranges, malformed inputs, edges and realistic tables.
 
 mod books;
 mod faults;
+mod limits;
 mod records;
 pub(crate) mod rng;
 mod steps;
@@ -35,6 +36,7 @@ pub struct Generator {
     size: Size,
     rng: Rng,
     known: VecDeque<Case>,
+    limits: VecDeque<Case>,
     full_range: Vec<Case>,
     chain: VecDeque<Case>,
 }
@@ -43,7 +45,7 @@ impl Iterator for Generator {
     type Item = Case;
 
     fn next(&mut self) -> Option<Case> {
-        if let Some(case) = self.known.pop_front() {
+        if let Some(case) = self.known.pop_front().or_else(|| self.limits.pop_front()) {
             return Some(case);
         }
         Some(match self.rng.below(20) {
@@ -61,7 +63,11 @@ impl Generator {
         // So that a short run takes an even share of the range.
         rng.shuffle(&mut full_range);
         let known = systematic::known_cases(kind).into();
-        Generator { kind, size, rng, known, full_range, chain: VecDeque::new() }
+        let limits = match size {
+            Size::Small => VecDeque::new(),
+            Size::Full => limits::cases(kind).collect(),
+        };
+        Generator { kind, size, rng, known, limits, full_range, chain: VecDeque::new() }
     }
 
     fn next_of_range(&mut self) -> Case {
@@ -265,8 +271,10 @@ mod tests {
 
     const INPUTS: usize = 1500;
 
+    /// Without the limits, which have tests of their own.
     fn cases(kind: u8, size: Size) -> impl Iterator<Item = Case> {
-        Generator::new(kind, size, 1).take(INPUTS)
+        let generator = Generator::new(kind, size, 1);
+        Generator { limits: VecDeque::new(), ..generator }.take(INPUTS)
     }
 
     fn numbers(kind: u8, size: Size) -> BTreeMap<u64, usize> {
@@ -303,7 +311,7 @@ mod tests {
     #[test]
     fn cases_decode_to_themselves() {
         for (kind, name) in KINDS {
-            for case in cases(kind, Size::Full) {
+            for case in cases(kind, Size::Full).chain(limits::cases(kind)) {
                 let bytes = case.encode();
                 assert_eq!(Case::decode(&mut Reader::new(&bytes)).as_ref(), Some(&case), "{name}");
                 assert_eq!(Case::decode(&mut Reader::new(&bytes[..bytes.len() - 1])), None);

@@ -1,7 +1,7 @@
 //! All comparisons: the kinds of the exam, the host entry, the listings.
 //!
-//! Each draws from one endless sequence, round after round, so that the K cases and the full
-//! ranges come once in a run, however long it is.
+//! Each draws from one endless sequence, round after round, so that the K cases, the limits and
+//! the full ranges come once in a run, however long it is.
 
 use super::{compare, compare_listings, Asked, Tally};
 use crate::exam::kind_name;

@@ -1,8 +1,7 @@
 //! Books for the host entry and for the listing program, at least half of them damaged.
 
-use super::faults::append_block;
 use super::rng::Rng;
-use super::{Generator, Size};
+use super::{limits, Generator, Size};
 use crate::book::{book_of, parse, Verdict, BLOCK};
 use crate::exam::Case;
 use crate::examine::{HostCase, MOST_BYTES};
@@ -11,11 +10,11 @@ use std::collections::VecDeque;
 
 const READ_BOOK: u8 = 8;
 
-/// An endless sequence: odd lengths, then damaged books and those of the K cases, full ranges
-/// and random tables by turns.
+/// An endless sequence: books at the limits, then damaged books and those of the K cases, full
+/// ranges and random tables by turns.
 pub struct Books {
     cases: Generator,
-    odd_lengths: VecDeque<Vec<u8>>,
+    first: VecDeque<Vec<u8>>,
     damaged_last: bool,
 }
 
@@ -23,7 +22,7 @@ impl Iterator for Books {
     type Item = Vec<u8>;
 
     fn next(&mut self) -> Option<Vec<u8>> {
-        if let Some(book) = self.odd_lengths.pop_front() {
+        if let Some(book) = self.first.pop_front() {
             return Some(book);
         }
         self.damaged_last = !self.damaged_last;
@@ -33,8 +32,12 @@ impl Iterator for Books {
 
 impl Books {
     pub fn new(seed: u64) -> Books {
+        Books::after(limits::books().chain([much_more()]), seed)
+    }
+
+    fn after(first: impl Iterator<Item = Vec<u8>>, seed: u64) -> Books {
         let cases = Generator::new(READ_BOOK, Size::Full, seed);
-        Books { cases, odd_lengths: odd_lengths().into(), damaged_last: false }
+        Books { cases, first: first.collect(), damaged_last: false }
     }
 
     fn damaged(&mut self) -> Vec<u8> {
@@ -64,15 +67,12 @@ fn book_of_case(case: Case) -> Vec<u8> {
     }
 }
 
-/// Nothing, one byte, and what a reader that stops at the longest book takes for a whole one.
-fn odd_lengths() -> Vec<Vec<u8>> {
-    let longest = book_of(&Lent { words: [1, 1, 1].repeat(MOST_ROWS), m: 1 }, &Verdict::none());
-    let a_byte_more = [&longest[..], &[0]].concat();
-    let mut a_block_more = longest.clone();
-    append_block(&mut a_block_more);
-    let mut much_more = longest;
-    much_more.resize(MOST_BYTES, 0);
-    vec![vec![], vec![0], a_byte_more, a_block_more, much_more]
+/// What a reader that stops at the longest book takes for a whole one.
+fn much_more() -> Vec<u8> {
+    let longest = Lent { words: [1, 1, 1].repeat(MOST_ROWS), m: 1 };
+    let mut book = book_of(&longest, &Verdict::none());
+    book.resize(MOST_BYTES, 0);
+    book
 }
 
 /// An output shorter than its book, as long, or longer.
@@ -86,12 +86,17 @@ fn output_length(rng: &Rng, least: usize) -> usize {
 }
 
 /// Books with outputs of random bytes.
-pub fn host_cases(seed: u64) -> impl Iterator<Item = HostCase> {
+fn random_host_cases(seed: u64) -> impl Iterator<Item = HostCase> {
     let rng = Rng::new(seed);
-    Books::new(seed).map(move |book| {
+    Books::after([much_more()].into_iter(), seed).map(move |book| {
         let output = rng.buffer(output_length(&rng, book.len()));
         HostCase { book, output }
     })
+}
+
+/// The limits of the entry, then random cases.
+pub fn host_cases(seed: u64) -> impl Iterator<Item = HostCase> {
+    limits::host_cases().chain(random_host_cases(seed))
 }
 
 #[cfg(test)]
@@ -100,19 +105,21 @@ mod tests {
     use crate::host::host;
     use std::cmp::Ordering;
     use std::collections::{BTreeMap, BTreeSet};
+    use std::iter;
 
     const INPUTS: usize = 1500;
 
     #[test]
     fn at_least_half_of_the_books_are_damaged() {
-        let damaged = Books::new(1).take(INPUTS).filter(|book| parse(book).is_err()).count();
+        let damaged =
+            Books::after(iter::empty(), 1).take(INPUTS).filter(|book| parse(book).is_err()).count();
         assert!((INPUTS / 2..INPUTS * 3 / 4).contains(&damaged), "{damaged}");
     }
 
     #[test]
     fn every_number_of_the_host_entry_occurs() {
         let mut numbers: BTreeMap<u64, usize> = BTreeMap::new();
-        for HostCase { book, output } in host_cases(1).take(INPUTS) {
+        for HostCase { book, output } in random_host_cases(1).take(INPUTS) {
             *numbers.entry(host(&book, &output).number).or_default() += 1;
         }
         assert!(numbers.keys().eq(&[0, 1, 2, 3, 4, 8, 9, 10, 11, 12, 13]), "{numbers:?}");
@@ -121,7 +128,7 @@ mod tests {
 
     #[test]
     fn outputs_of_every_length_meet_every_kind_of_book() {
-        let seen: BTreeSet<(bool, Ordering)> = host_cases(1)
+        let seen: BTreeSet<(bool, Ordering)> = random_host_cases(1)
             .take(INPUTS)
             .map(|case| (parse(&case.book).is_ok(), case.output.len().cmp(&case.book.len())))
             .collect();
@@ -130,7 +137,7 @@ mod tests {
 
     #[test]
     fn the_same_seed_gives_the_same_cases() {
-        assert!(host_cases(3).take(100).eq(host_cases(3).take(100)));
-        assert!(!host_cases(3).take(100).eq(host_cases(4).take(100)));
+        assert!(random_host_cases(3).take(100).eq(random_host_cases(3).take(100)));
+        assert!(!random_host_cases(3).take(100).eq(random_host_cases(4).take(100)));
     }
 }

@@ -62,7 +62,7 @@ fn search_of(lent: &Lent) -> Case {
     Case::Search { lent: lent.clone(), output: vec![FILL; lent.n() + 1] }
 }
 
-fn state_of(placed: &[usize], n: usize, cursor: usize) -> State {
+pub fn state_of(placed: &[usize], n: usize, cursor: usize) -> State {
     let mut state = State::fresh();
     state.placed = placed.len() as u64;
     state.cursor = cursor as u64;
@@ -131,7 +131,7 @@ fn writes(size: Size) -> Vec<Case> {
 }
 
 /// A row block and a first block whose sums are 0xFFFF.
-fn books_of_full_sum() -> [(Lent, Verdict); 2] {
+pub fn books_of_full_sum() -> [(Lent, Verdict); 2] {
     let one_row = Lent { words: vec![1, 1, 65532], m: 1 };
     let group = BTreeSet::from([1, 2, 3, 5, 6, 7, 10, 11, 12, 13, 14, 15]);
     [(one_row, Verdict::order(&[0])), (ones(16, 1), Verdict::blocked(&group))]
