@@ -1,8 +1,8 @@
-//! The example books: K5, a blocked table, and a made-up gateway.
+//! The example books: K5, a blocked table, and a made-up gateway; and books of the most rows.
 
 use crate::book::{book_of, Verdict};
 use crate::known;
-use crate::table::Lent;
+use crate::table::{Lent, MOST_ROWS, MOST_TICKS};
 
 pub const GATEWAY_CORES: u32 = 4;
 
@@ -64,4 +64,37 @@ pub fn gateway() -> Lent {
 pub fn books() -> [(&'static str, Vec<u8>); 3] {
     [("k5.book", known::k(5)), ("blocked.book", known::k(6)), ("gateway.book", gateway())]
         .map(|(name, lent)| (name, book_of(&lent, &Verdict::none())))
+}
+
+/// Row i has room for i rows above it and no more, so that only the lowest row left passes at each
+/// level: all but the most tests that a search can make.
+fn placed_late(m: u32) -> Lent {
+    let row = |i: u32| [m, m + i, 100_000];
+    Lent { words: (0..MOST_ROWS as u32).flat_map(row).collect(), m }
+}
+
+/// One row too many for the cores, tested in vain at every level until only they are left.
+fn blocked_late(m: u32) -> Lent {
+    let mut words = [5, 5, 1000].repeat(m as usize + 1);
+    words.extend([1, MOST_TICKS, MOST_TICKS].repeat(MOST_ROWS - m as usize - 1));
+    Lent { words, m }
+}
+
+/// The last row of the longest book is out of range.
+fn refused_late() -> Lent {
+    let mut lent = placed_late(4);
+    lent.words[3 * MOST_ROWS - 3] = 0;
+    lent
+}
+
+/// Books of 96 rows, to measure with.
+pub fn large_books() -> [(&'static str, Vec<u8>); 5] {
+    [
+        ("placed_4.book", placed_late(4)),
+        ("placed_32.book", placed_late(32)),
+        ("blocked_4.book", blocked_late(4)),
+        ("blocked_32.book", blocked_late(32)),
+        ("refused.book", refused_late()),
+    ]
+    .map(|(name, lent)| (name, book_of(&lent, &Verdict::none())))
 }

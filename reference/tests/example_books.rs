@@ -2,7 +2,7 @@
 
 use reference::audit::used_at;
 use reference::book::parse;
-use reference::examples::{books, gateway, GATEWAY, GATEWAY_CORES};
+use reference::examples::{books, gateway, large_books, GATEWAY, GATEWAY_CORES};
 use reference::listing::listing;
 use reference::search::audsley;
 use std::fs;
@@ -21,12 +21,34 @@ fn read(path: PathBuf) -> Vec<u8> {
     fs::read(&path).unwrap_or_else(|fault| panic!("{}: {fault}", path.display()))
 }
 
+/// Runs the program with the options and a new folder.
+fn written(options: &[&str], name: &str) -> PathBuf {
+    let folder = Path::new(env!("CARGO_TARGET_TMPDIR")).join(name);
+    fs::create_dir_all(&folder).expect("the folder can be made");
+    let run = Command::new(EXAMPLE_BOOKS).args(options).arg(&folder).status();
+    assert!(run.expect("example_books runs").success());
+    folder
+}
+
+#[test]
+fn large_books_are_written_and_end_late() {
+    let folder = written(&["--large"], "large_books");
+    let headers = [
+        "ORDER m=4 n=96 tests=4650 ",
+        "ORDER m=32 n=96 tests=4160 ",
+        "BLOCKED m=4 n=96 tests=551 ",
+        "BLOCKED m=32 n=96 tests=2175 ",
+        "REFUSED 3\n",
+    ];
+    for ((name, book), header) in large_books().into_iter().zip(headers) {
+        assert_eq!(read(folder.join(name)), book, "{name}");
+        assert!(listing(&book).starts_with(header), "{name}: {}", listing(&book));
+    }
+}
+
 #[test]
 fn the_stored_books_are_those_written() {
-    let folder = Path::new(env!("CARGO_TARGET_TMPDIR")).join("example_books");
-    fs::create_dir_all(&folder).expect("the folder can be made");
-    let run = Command::new(EXAMPLE_BOOKS).arg(&folder).status();
-    assert!(run.expect("example_books runs").success());
+    let folder = written(&[], "example_books");
     for (name, book) in books() {
         assert_eq!(read(folder.join(name)), book, "{name}");
         assert_eq!(read(examples().join(name)), book, "{name}");
