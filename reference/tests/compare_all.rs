@@ -1,5 +1,6 @@
 //! `compare_all` sees no difference where there is none, and sees one where there is.
 
+use std::collections::BTreeMap;
 use std::process::{Command, Output};
 
 const COMPARE_ALL: &str = env!("CARGO_BIN_EXE_compare_all");
@@ -25,43 +26,57 @@ fn text(output: &Output) -> String {
     String::from_utf8_lossy(&output.stdout).to_string()
 }
 
-/// The name, the inputs and the differences of each line that counts.
-fn counts(output: &Output) -> Vec<(String, usize, usize)> {
+/// The inputs and the differences of each line that counts, by name.
+fn counts(output: &Output) -> BTreeMap<String, (usize, usize)> {
     let number = |text: &str| text.split(' ').next().and_then(|text| text.parse().ok());
     let count = |line: &str| {
         let (name, counts) = line.split_once(": ")?;
         let (inputs, differences) = counts.split_once(" malformed), ")?;
-        Some((name.to_string(), number(inputs)?, number(differences)?))
+        Some((name.to_string(), (number(inputs)?, number(differences)?)))
     };
     text(output).lines().filter_map(count).collect()
+}
+
+/// The line in all must be the sum of the others.
+fn assert_total(mut counts: BTreeMap<String, (usize, usize)>) {
+    let total = counts.remove("total");
+    let sum = counts.values().fold((0, 0), |sum, more| (sum.0 + more.0, sum.1 + more.1));
+    assert_eq!(total, Some(sum));
 }
 
 #[test]
 fn every_comparison_takes_its_inputs_and_agrees() {
     let output = run(&["--inputs", "101", "--", STAND_IN]);
     assert_eq!(output.status.code(), Some(0));
-    let inputs = |name: &str| if name == "listing" { 6 } else { 101 };
-    let mut expected: Vec<_> = NAMES.map(|name| (name.to_string(), inputs(name), 0)).into();
-    expected.push(("total".to_string(), 9 * 101 + 6, 0));
-    assert_eq!(counts(&output), expected);
-    assert_eq!(text(&output).lines().count(), expected.len());
+    let counts = counts(&output);
+    for name in NAMES {
+        let inputs = if name == "listing" { 6 } else { 101 };
+        assert_eq!(counts[name], (inputs, 0), "{name}");
+    }
+    assert_eq!(text(&output).lines().count(), counts.len());
+    assert!(text(&output).lines().last().is_some_and(|line| line.starts_with("total: ")));
+    assert_total(counts);
 }
 
 #[test]
 fn a_corrupted_answer_is_seen_in_each() {
-    let output = run(&["--inputs", "100", "--kinds", "1,8", "--", STAND_IN, "--break", "100"]);
+    let output = run(&["--inputs", "20", "--", STAND_IN, "--break", "20"]);
     assert_eq!(output.status.code(), Some(1));
-    let line = |name: &str, inputs, differences| (name.to_string(), inputs, differences);
-    let expected = [
-        line("test", 100, 1),
-        line("read book", 100, 1),
-        line("host", 100, 1),
-        line("listing", 5, 0),
-    ];
-    assert_eq!(counts(&output)[..4], expected);
-    assert_eq!(counts(&output)[4], line("total", 305, 3));
-    let every_listing = run(&["--inputs", "40", "--", STAND_IN, "--break", "1"]);
-    assert_eq!(counts(&every_listing)[9], line("listing", 2, 2));
+    let every_twentieth = counts(&output);
+    for name in NAMES {
+        let expected = if name == "listing" { (1, 0) } else { (20, 1) };
+        assert_eq!(every_twentieth[name], expected, "{name}");
+    }
+    assert_total(every_twentieth);
+    let every_one = run(&["--inputs", "40", "--", STAND_IN, "--break", "1"]);
+    assert_eq!(counts(&every_one)["listing"], (2, 2));
+}
+
+#[test]
+fn kinds_can_be_chosen() {
+    let counts = counts(&run(&["--inputs", "10", "--kinds", "1,8", "--", STAND_IN]));
+    let kinds = NAMES[..8].iter().filter(|&&name| counts.contains_key(name));
+    assert!(kinds.eq(&["test", "read book"]));
 }
 
 #[test]
@@ -69,10 +84,10 @@ fn a_length_of_time_is_rounds_of_every_comparison() {
     let output = run(&["--minutes", "0.0001", "--kinds", "4", "--", STAND_IN]);
     assert_eq!(output.status.code(), Some(0));
     let counts = counts(&output);
-    let rounds = counts[0].1 / 2000;
+    let rounds = counts["policy"].0 / 2000;
     assert!(rounds > 0);
-    let inputs: Vec<usize> = counts.iter().map(|(_, inputs, _)| *inputs).collect();
-    assert_eq!(inputs, [2000, 2000, 100, 4100].map(|inputs| rounds * inputs));
+    let inputs = ["policy", "host", "listing"].map(|name| counts[name].0);
+    assert_eq!(inputs, [2000, 2000, 100].map(|inputs| rounds * inputs));
 }
 
 #[test]

@@ -85,10 +85,14 @@ fn equal_rows(rng: &Rng, size: Size) -> Lent {
 }
 
 /// With one core and this sequence the search makes its most tests.
+pub fn rising_rows(n: usize, slack: u32) -> Vec<[u32; 3]> {
+    (1..=n as u32).map(|d| [1, d + slack, 1000]).collect()
+}
+
 fn rising_deadlines(rng: &Rng, size: Size) -> Lent {
     let n = row_count(rng, size);
     let slack = rng.ticks(0, 1);
-    let mut rows: Vec<[u32; 3]> = (1..=n as u32).map(|d| [1, d + slack, 1000]).collect();
+    let mut rows = rising_rows(n, slack);
     if rng.one_in(2) {
         let (i, j) = (rng.index(n), rng.index(n));
         rows.swap(i, j);

@@ -4,7 +4,7 @@ use super::{heavy, light, limit, Limit, FILL, ROW_COUNTS};
 use crate::exam::Case;
 use crate::table::{order_bytes, MOST_ROWS, NO_ROW};
 
-pub const ENTRIES: &str = "order: each row once";
+const ENTRIES: &str = "order: each row once";
 
 /// Rows 0 to n − 1 with the first or the last entry wrong.
 pub fn wrong_orders(n: usize) -> Vec<(&'static str, Vec<u8>)> {

@@ -3,6 +3,7 @@
 use super::{first_rows, heavy, light, limit, Limit, ROW_COUNTS};
 use crate::exam::Case;
 use crate::table::{Mask, MOST_ROWS};
+use std::cmp::Ordering;
 
 /// The ends of the two words of a set and of the table.
 const BITS: [usize; 6] = [0, 63, 64, 95, 96, 127];
@@ -13,10 +14,10 @@ fn one_row(row: usize) -> Mask {
 
 /// Single bits: which side of n, the bit, and whether it is a row.
 pub fn bits(n: usize) -> Vec<(&'static str, usize, bool)> {
-    let side = |bit: usize| match bit {
-        _ if bit < n => "below n",
-        _ if bit == n => "n",
-        _ => "above n",
+    let side = |bit: usize| match bit.cmp(&n) {
+        Ordering::Less => "below n",
+        Ordering::Equal => "n",
+        Ordering::Greater => "above n",
     };
     [&[n - 1, n, n + 1], &BITS[..]].concat().iter().map(|&bit| (side(bit), bit, bit < n)).collect()
 }

@@ -3,8 +3,10 @@
 use super::{heavy, light, limit, Limit};
 use crate::exam::Case;
 use crate::gen::systematic::state_of;
+use crate::gen::tables::rising_rows;
 use crate::search::State;
 use crate::table::{Lent, MOST_ROWS, NO_ROW};
+use std::collections::BTreeSet;
 
 /// n rows of which the first `placed` are placed, in a sound state; quota 0 judges the state alone.
 struct Placed {
@@ -19,16 +21,18 @@ impl Placed {
     }
 
     fn all() -> Vec<Placed> {
-        let of_n = |n| [0, 1, n - 1, n].map(|placed| Placed::new(n, placed));
+        let of_n = |n| BTreeSet::from([0, 1, n - 1, n]).into_iter().map(move |p| Placed::new(n, p));
         [1, 2, 64, 95, MOST_ROWS].into_iter().flat_map(of_n).collect()
     }
 
     /// The number of the state, in which the rows from `placed` on are free.
     fn sound(&self, cursor: usize) -> u64 {
-        match () {
-            _ if self.placed == self.n => 0,
-            _ if cursor == self.n => 4,
-            _ => 15,
+        if self.placed == self.n {
+            0
+        } else if cursor == self.n {
+            4
+        } else {
+            15
         }
     }
 
@@ -125,11 +129,6 @@ impl Placed {
     }
 }
 
-/// With one core and this sequence the search makes its most tests.
-fn rising(n: usize) -> Lent {
-    Lent { words: (1..=n as u32).flat_map(|d| [1, d, 1000]).collect(), m: 1 }
-}
-
 /// Steps from fresh, for a search known to end with a number after so many tests.
 fn quotas(name: &'static str, lent: &Lent, tests: u64, end: u64) -> Vec<Limit<Case>> {
     let of_quota = |(at, quota)| {
@@ -164,8 +163,9 @@ pub fn states(kind: u8) -> Vec<Limit<Case>> {
     let mut limits: Vec<Limit<Case>> = Placed::all().iter().flat_map(Placed::limits).collect();
     for n in [2, 95, MOST_ROWS] {
         let most = (n * (n + 1) / 2) as u64;
+        let rising = Lent { words: rising_rows(n, 0).concat(), m: 1 };
         limits.extend(quotas("quota, placed", &light(n), n as u64, 0));
-        limits.extend(quotas("quota, placed", &rising(n), most, 0));
+        limits.extend(quotas("quota, placed", &rising, most, 0));
         limits.extend(quotas("quota, blocked", &heavy(n), n as u64, 4));
     }
     limits.extend(quotas_without_rows());
