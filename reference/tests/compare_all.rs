@@ -5,7 +5,7 @@ use std::process::{Command, Output};
 
 const COMPARE_ALL: &str = env!("CARGO_BIN_EXE_compare_all");
 const STAND_IN: &str = env!("CARGO_BIN_EXE_stand_in");
-const NAMES: [&str; 10] = [
+const NAMES: [&str; 11] = [
     "test",
     "search",
     "step",
@@ -15,6 +15,7 @@ const NAMES: [&str; 10] = [
     "write book",
     "read book",
     "host",
+    "records",
     "listing",
 ];
 

@@ -1,5 +1,5 @@
-//! Compares everything: the kinds of the program `exam`, the host entry put through `examine`,
-//! the listing program. RUN is the command that runs a program when its name is added.
+//! Compares everything: the kinds of the program `exam`, the host entry put through `examine`, the
+//! entry for records put through `examine_records`, the listing program. RUN is the command that runs a program when its name is added.
 //! Exit status 1 on any difference.
 #![forbid(unsafe_code)]
 

@@ -1,11 +1,11 @@
-//! All comparisons: the kinds of the exam, the host entry, the listings.
+//! All comparisons: the kinds of the exam, the host entry, the entry for records, the listings.
 //!
 //! Each draws from one endless sequence, round after round, so that the K cases, the limits and
 //! the full ranges come once in a run, however long it is.
 
 use super::{compare, compare_listings, Asked, Tally};
 use crate::exam::kind_name;
-use crate::gen::{host_cases, Books, Generator, Size};
+use crate::gen::{host_cases, records_cases, Books, Generator, Size};
 use crate::options::{AllOptions, Extent};
 use crate::program::Program;
 use std::io;
@@ -57,6 +57,7 @@ fn comparisons(options: &AllOptions) -> Vec<Comparison> {
     };
     let mut all: Vec<Comparison> = options.kinds.iter().map(of_kind).collect();
     all.push(Comparison::of_cases("host", run("examine"), host_cases(seed)));
+    all.push(Comparison::of_cases("records", run("examine_records"), records_cases(seed)));
     all.push(Comparison::of_listings(run("listing"), Books::new(seed)));
     all
 }
