@@ -1,10 +1,10 @@
 -- Laws of bits, of masks, of sets as masks of two words, and of sets as tests of row numbers, in this order.
 -- A number is its bits, so a set whose words fit 64 bits is the rows that it has, and each operation is told by the rows of its result.
 -- Assumes nothing.
-use Prim.Native.Nat.{ℕ, zero, suc, _+_, _*_, _-_, _/_, _%_, _^_, _≤_, _<_, zero-le, max}
+use Prim.Native.Nat.{ℕ, zero, suc, _+_, _*_, _-_, _/_, _%_, _^_, _≤_, _<_, zero-le, max, min}
 use mathlib.Core.Path.{_≡_, refl, sym, ap, ap₂, _∙_, fun-ext}
 use mathlib.Core.Logic.{⊎-elim, _↔_}
-use mathlib.Core.Bool.{Bool, true, false, not, _||_, _&&_, and-true, and-false}
+use mathlib.Core.Bool.{Bool, true, false, cond, not, _||_, _&&_, and-true, and-false}
 use native.Mathlib.Omega.{arith}
 use native.Mathlib.Numerals.{add-one}
 use native.Mathlib.Nat.{add-comm, div-one, mod-lt, zero-lt-suc, div-eq-of-lt, add-zero, zero-add, suc-add, pow-suc, one-mul, mul-div-cancel, mul-mod-left, two-pow-succ, eq-or-lt-of-le, le-of-suc-le-suc, le-refl, lt-of-lt-of-le}
@@ -12,11 +12,11 @@ use lib.Dec.{eqb, ltb, leb·suc-zero, leb·suc-suc, eqb·zero-suc, eqb·suc-zero
 use lib.Arith.{digits-mod, digits-div, digits-lt, lt-one}
 use lib.Pow.{pow-mono, pow-lt, pow-add, pow-pos, shr-shr, shr-lt, shl-exact}
 use lib.Bits.{bitOr, or-shr, or-step, block-odd, block-half}
-use lib.Count.{ones, ones-step, ones-cat}
+use lib.Count.{ones, ones-step, ones-cat, trailingZeros, under}
 use borrow.Author.Tests.{ltb-true, ltb-false, eqb-true, lt-ltb}
 use Rattle.rows.specs.BoolLaws.{either, not-both, and-not, not-and}
-use Rattle.rows.specs.Sums.{on, count}
-use Rattle.rows.specs.SumLaws.{count-zero-iff, sum-front, on-le}
+use Rattle.rows.specs.Sums.{on, count, first}
+use Rattle.rows.specs.SumLaws.{count-zero-iff, sum-front, on-le, first-is, first-only}
 use Rattle.rows.specs.Sets.{word, bit, has, mask, setOf, without, below, withRow, withoutRow, size, within}
 use Rattle.rows.specs.declared.sets.Set.{Set}
 
@@ -141,6 +141,23 @@ bits-ext (suc n) a b p q h =
     let tail = bits-ext n (a / 2) (b / 2) (half-lt a n p) (half-lt b n q) bits in
     let head : a % 2 ≡ b % 2 = sym (on-bit a) ∙ ap (λ (x : Bool). on x 1) (h 0 (omega arith)) ∙ on-bit b in
     omega arith
+
+-- the zeros below the lowest bit from a on lead to it
+pub zeros-first : (k w a : ℕ) → a + trailingZeros k (w / 2 ^ a) ≡ first (bit w) k a
+unfolding bit trailingZeros
+zeros-first zero w a = add-zero a
+zeros-first (suc k) w a =
+    let half : w / 2 ^ a / 2 ≡ w / 2 ^ suc a = shr-shr w a 1 ∙ ap (λ (x : ℕ). w / 2 ^ x) (add-one a) in
+    digit (w / 2 ^ a % 2) (digit-lt (w / 2 ^ a)) (ap (λ (x : ℕ). suc a + trailingZeros k x) half ∙ zeros-first k w (suc a))
+  where
+    digit : (b : ℕ) → b < 2 → suc a + trailingZeros k (w / 2 ^ a / 2) ≡ first (bit w) k (suc a)
+        → a + under b (trailingZeros k (w / 2 ^ a / 2)) ≡ cond (eqb b 1) a (first (bit w) k (suc a))
+    digit zero l e = omega (arith, e)
+    digit (suc zero) l e = add-zero a
+    digit (suc (suc b)) l e = absurd (omega arith)
+
+pub zeros-whole : (k w : ℕ) → trailingZeros k w ≡ first (bit w) k 0
+zeros-whole k w = ap (trailingZeros k) (sym (div-one w)) ∙ sym (zero-add (trailingZeros k (w / 2 ^ 0))) ∙ zeros-first k w 0
 
 -- ---- masks
 
@@ -275,6 +292,40 @@ has-with s k = has-set-of (λ i. has s i || eqb i k)
 
 pub has-without : (s : Set) (k i : ℕ) → i < 128 → has (withoutRow s k) i ≡ without (has s) k i
 has-without s k = has-set-of (without (has s) k)
+
+-- the first row from i on is that of the low word, or else of the high word
+pub next-low : (s : Set) (i : ℕ) → first (bit (s .low)) 64 i < 64 → first (bit (s .low)) 64 i ≡ first (has s) (128 - i) i
+next-low s i h =
+    let f = first-is (bit (s .low)) 64 i in
+    let r = first (bit (s .low)) 64 i in
+    first-only (has s) (128 - i) i r
+    (record {
+      from = f .from;
+      to = omega arith;
+      before = λ j l q. has-low s j (omega arith) ∙ f .before j l q;
+      found = λ q. has-low s r h ∙ f .found (omega (arith, f .from));
+    })
+
+-- where there is none from i up to 64 + j it is the first of the high word from j on, and 128 where that has none either
+pub next-high : (s : Set) (i j : ℕ) → FitsWords s → i < 128 → i ≤ 64 + j → ((k : ℕ) → i ≤ k → k < 64 + j → has s k ≡ false)
+    → min (64 + first (bit (s .high)) 64 j) 128 ≡ first (has s) (128 - i) i
+next-high s i j fits l g none =
+    let f = first-is (bit (s .high)) 64 j in
+    let r = first (bit (s .high)) 64 j in
+    let after : (k : ℕ) → 64 + j ≤ k → k < 64 + r → has s k ≡ false =
+    λ k p q. has-high s k fits (omega arith) ∙ f .before (k - 64) (omega arith) (omega arith)
+    in
+    first-only (has s) (128 - i) i (min (64 + r) 128)
+    (record {
+      from = omega (arith, f .from);
+      to = omega arith;
+      before = λ k p q. ⊎-elim (λ e. none k p (ltb-true k (64 + j) e)) (λ e. after k (ltb-false k (64 + j) e) (omega arith)) (either (ltb k (64 + j)));
+      found = λ q.
+          let small : r < 64 = omega arith in
+          let row : min (64 + r) 128 ≡ 64 + r = omega arith in
+          let high : 64 + r - 64 ≡ r = omega arith in
+          rw row (has-high s (64 + r) fits (omega arith) ∙ rw high (f .found (omega (arith, f .from))));
+    })
 
 pub size-ones : (s : Set) → FitsWords s → ones (s .low) + ones (s .high) ≡ size s
 unfolding size

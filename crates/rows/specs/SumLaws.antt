@@ -1,14 +1,14 @@
 -- Laws of sums, of counts, and of the first number that a test takes, in this order.
 -- Assumes nothing.
-use Prim.Native.Nat.{ℕ, zero, suc, _+_, _*_, _-_, _≤_, _<_, zero-le}
+use Prim.Native.Nat.{ℕ, zero, suc, _+_, _*_, _-_, _≤_, _<_, zero-le, min}
 use mathlib.Core.Path.{_≡_, refl, sym, ap, _∙_}
 use mathlib.Core.Logic.{⊎-elim, _↔_}
 use mathlib.Core.Bool.{Bool, true, false}
 use native.Mathlib.Omega.{arith}
 use native.Mathlib.Numerals.{add-one}
 use native.Mathlib.Nat.{le-refl, le-antisymm, le-of-eq, add-le-add, ne-of-lt, eq-or-lt-of-le, le-of-suc-le-suc, zero-mul}
-use lib.Dec.{eqb}
-use borrow.Author.Tests.{eq-eqb, ne-eqb}
+use lib.Dec.{eqb, ltb}
+use borrow.Author.Tests.{eq-eqb, ne-eqb, ltb-true, ltb-false}
 use Rattle.rows.specs.Sums.{on, sum, count, first}
 use Rattle.rows.specs.BoolLaws.{either, not-both}
 
@@ -56,6 +56,31 @@ pub sum-bound : (n b : ℕ) (f : ℕ → ℕ) → ((i : ℕ) → i < n → f i �
 sum-bound zero b f h = omega arith
 sum-bound (suc n) b f h = omega (arith, sum-bound n b f (λ i l. h i (omega arith)), h n (le-refl (suc n)))
 
+-- a sum up to more is no less
+pub sum-upto : (a b : ℕ) (f : ℕ → ℕ) → a ≤ b → sum a f ≤ sum b f
+sum-upto a zero f h = let e : a ≡ 0 = omega arith in rw e (le-refl 0)
+sum-upto a (suc b) f h =
+    ⊎-elim (λ (e : a ≡ suc b). rw e (le-refl (sum (suc b) f)))
+    (λ (l : a < suc b). omega (arith, sum-upto a b f (le-of-suc-le-suc l)))
+    (eq-or-lt-of-le h)
+
+-- and the same where nothing is added, each up to n at most
+pub sum-gap : (a b n : ℕ) (f : ℕ → ℕ) → a ≤ b → ((i : ℕ) → a ≤ i → i < b → f i ≡ 0) → sum (min b n) f ≡ sum (min a n) f
+sum-gap a zero n f h z = let e : a ≡ 0 = omega arith in rw e refl
+sum-gap a (suc b) n f h z =
+    ⊎-elim (λ (e : a ≡ suc b). rw e refl)
+    (λ (l : a < suc b).
+    let rest = sum-gap a b n f (le-of-suc-le-suc l) (λ i p q. z i p (omega arith)) in
+    ⊎-elim
+    (λ (e : ltb b n ≡ true).
+    let less = ltb-true b n e in
+    let more : min (suc b) n ≡ suc b = omega arith in
+    let same : min b n ≡ b = omega arith in
+    rw more (omega (arith, z b (le-of-suc-le-suc l) (le-refl (suc b)), rw same at rest)))
+    (λ (e : ltb b n ≡ false). let past = ltb-false b n e in let same : min (suc b) n ≡ min b n = omega arith in rw same rest)
+    (either (ltb b n)))
+    (eq-or-lt-of-le h)
+
 -- the first summand apart
 pub sum-front : (n : ℕ) (f : ℕ → ℕ) → sum (suc n) f ≡ f 0 + sum n (λ i. f (suc i))
 sum-front zero f = omega arith
@@ -80,11 +105,7 @@ count-mono n p q s = sum-mono n _ _ (λ i l. on-mono (p i) (q i) (s i) (le-refl 
 
 -- a count up to more takes no fewer
 pub count-upto : (a b : ℕ) (p : ℕ → Bool) → a ≤ b → count a p ≤ count b p
-count-upto a zero p h = let e : a ≡ 0 = omega arith in rw e (le-refl 0)
-count-upto a (suc b) p h =
-    ⊎-elim (λ (e : a ≡ suc b). rw e (le-refl (count (suc b) p)))
-    (λ (l : a < suc b). omega (arith, count-upto a b p (le-of-suc-le-suc l)))
-    (eq-or-lt-of-le h)
+count-upto a b p h = sum-upto a b (λ i. on (p i) 1) h
 
 pub count-le : (n : ℕ) (p : ℕ → Bool) → count n p ≤ n
 count-le zero p = zero-le
@@ -140,6 +161,19 @@ first-is p (suc d) i =
       found = λ h. r .found (omega arith);
     }))
     (either (p i))
+
+-- no other number is the first
+pub first-only : (p : ℕ → Bool) (d i r : ℕ) → First p i d r → r ≡ first p d i
+first-only p d i r f = le-antisymm (no-later f (first-is p d i)) (no-later (first-is p d i) f)
+  where
+    no-later : {a b : ℕ} → First p i d a → First p i d b → a ≤ b
+    no-later {a} {b} f g =
+        ⊎-elim
+        (λ (e : ltb b a ≡ true).
+        let l = ltb-true b a e in
+        not-both (g .found (omega (arith, f .to))) (f .before b (g .from) l))
+        (ltb-false b a)
+        (either (ltb b a))
 
 -- a scan of the numbers below n, at i: it ends at one that p takes, and goes on behind one that p does not take
 module _ (p : ℕ → Bool) (n i : ℕ) (h : i < n) where

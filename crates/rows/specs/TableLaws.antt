@@ -84,6 +84,13 @@ read-fine words i r h =
     let z : _≡_ {A = ℕ} 0 1 = cc in absurd (omega arith))
     (either (inRange (wordsAt words i)))
 
+-- of every row of a table C is at most D, also of one at fault, which never works
+pub row-within : (words : List ℕ) (i : ℕ) → table words i .c ≤ table words i .d
+row-within words i =
+    ⊎-elim (λ (e : inRange (wordsAt words i) ≡ true). rw (read-in-range words i e) (in-range (wordsAt words i) e .within))
+    (λ (e : inRange (wordsAt words i) ≡ false). rw (read-out-of-range words i e) (omega arith))
+    (either (inRange (wordsAt words i)))
+
 -- ---- the checks 1, 2 and 3
 
 abbrev pub wellSized : List ℕ → Bool

@@ -1,5 +1,7 @@
 // A set of rows is a mask of two words, row 0 the lowest bit of the first.
 ghost use mathlib.Core.Path.{_≡_};
+ghost use Prim.Native.Nat.{_-_};
+ghost use Rattle.rows.specs.Sums.{first};
 ghost use Rattle.rows.specs.Sets.{has, withRow, withoutRow, size, within, below};
 
 #[repr(C)]
@@ -84,6 +86,27 @@ impl Set {
         ensures { λ r. ⌜ r ≡ size self ⌝ }
     {
         u64::count_ones(self.low) + u64::count_ones(self.high)
+    }
+
+    // The first row of the set from `from` on; where there is none, 128, or `from` where that is more.
+    pub fn next(self, from: usize) -> usize
+        ensures { λ r. ⌜ r ≡ first (has self) (128 - from) from ⌝ }
+    {
+        if from < 64 {
+            let row = from + u64::trailing_zeros(self.low >> from) as usize;
+            if row < 64 {
+                return row;
+            }
+            return 64 + u64::trailing_zeros(self.high) as usize;
+        }
+        if from < 128 {
+            let row = from + u64::trailing_zeros(self.high >> (from - 64)) as usize;
+            if row < 128 {
+                return row;
+            }
+            return 128;
+        }
+        from
     }
 
     // Whether every row of the set is below n.
