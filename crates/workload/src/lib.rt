@@ -67,12 +67,16 @@ pub fn cap(k: Row) -> u64
 pub fn plain(k: Row, i: Row) -> u64
     ensures { λ r. ⌜ r ≡ Workload·plain k i ⌝ }
 {
-    work_up_to(i, k.d as u64, cap(k))
+    least(work(i, k.d), cap(k))
 }
 
-// Carry-in interference of row i on row k.
+// Carry-in interference of row i on row k. Of rows in range the length fits 32 bits, and dividing is quicker there.
 pub fn carry(k: Row, i: Row) -> u64
     ensures { λ r. ⌜ r ≡ Workload·carry k i ⌝ }
 {
-    work_up_to(i, k.d as u64 + slack(i), cap(k))
+    let length = k.d as u64 + slack(i);
+    if length <= 0xffff_ffff {
+        return least(work(i, length as u32), cap(k));
+    }
+    work_up_to(i, length, cap(k))
 }

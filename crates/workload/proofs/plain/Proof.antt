@@ -1,23 +1,22 @@
--- The work in the definition's length, cut at the cap. Assumes nothing.
+-- The lesser of the work in the definition's length and the cap. Assumes nothing.
 use mathlib.Core.Path.{refl, _∙_}
 use Rattle.workload.specs.Workload.{plain}
-use Rattle.workload.specs.WorkloadLaws.{cap-fits}
 use borrow.Author.Needs.{needs}
 use Rattle.workload.proofs.plain.Statement.{statement}
 use Rattle.workload.proofs.plain.Tie as tie
 
-cast-work-up-to : tie.Need-cast-work-up-to
-cast-work-up-to c = search needs
+work-requires : tie.Need-work-requires
+work-requires c κs = search needs
 
 cap-requires : tie.Need-cap-requires
 cap-requires c κs = search needs
 
-work-up-to-requires : tie.Need-work-up-to-requires
-work-up-to-requires c κs = rw (c .cap .ensures) (cap-fits (c .before .before .args .k) (search needs))
+least-requires : tie.Need-least-requires
+least-requires c κs = search needs
 
 returns : tie.Need-returns
 unfolding plain
-returns c = c .work-up-to .ensures ∙ rw (c .before .cap .ensures) refl
+returns c = c .least .ensures ∙ rw (c .before .cap .ensures, c .before .before .work .ensures) refl
 
 pub plain-spec : {M : Type 1} → statement M
-plain-spec = tie.close (tie.spec cast-work-up-to cap-requires work-up-to-requires returns)
+plain-spec = tie.close (tie.spec work-requires cap-requires least-requires returns)
