@@ -12,6 +12,7 @@ pub(crate) mod tables;
 
 pub use books::{host_cases, Books};
 pub use records::records_cases;
+pub use tables::border_tables;
 
 use crate::book::{book_length, book_of, Verdict};
 use crate::exam::{refuses_before_work, Case};

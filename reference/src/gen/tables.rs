@@ -129,8 +129,7 @@ fn utilisations(rng: &Rng, n: usize, total: u64) -> Vec<u64> {
     }
 }
 
-fn realistic_of(rng: &Rng, n: usize) -> Lent {
-    let m = cores(rng, n);
+fn realistic_of(rng: &Rng, n: usize, m: u32) -> Lent {
     let total = u64::from(m) * rng.range(200_000, MILLION);
     let (low, high) =
         rng.pick(&[(10, 1_000), (1_000, 1_000_000), (10_000, MOST_TICKS), (10, MOST_TICKS)]);
@@ -151,7 +150,7 @@ fn realistic_of(rng: &Rng, n: usize) -> Lent {
 
 fn realistic(rng: &Rng, size: Size) -> Lent {
     let n = row_count(rng, size);
-    realistic_of(rng, n)
+    realistic_of(rng, n, cores(rng, n))
 }
 
 fn scaled(lent: &Lent, thousandths: u64) -> Lent {
@@ -183,7 +182,7 @@ fn last_scale(lent: &Lent, accepted: impl Fn(&Table) -> bool) -> u64 {
 
 fn realistic_for_border(rng: &Rng, size: Size) -> Lent {
     let n = row_count(rng, size).min(24);
-    realistic_of(rng, n)
+    realistic_of(rng, n, cores(rng, n))
 }
 
 /// A table whose search ends just on one side of the border.
@@ -191,6 +190,13 @@ fn border(rng: &Rng, size: Size) -> Lent {
     let lent = realistic_for_border(rng, size);
     let last = last_scale(&lent, placed);
     scaled(&lent, rng.pick(&[last, last + 1]))
+}
+
+/// A realistic table of n rows for m cores, as heavy as is placed, and the same a little heavier.
+pub fn border_tables(seed: u64, n: usize, m: u32) -> (Lent, Lent) {
+    let lent = realistic_of(&Rng::new(seed), n, m);
+    let last = last_scale(&lent, placed);
+    (scaled(&lent, last), scaled(&lent, last + 1))
 }
 
 /// A realistic table, as heavy as is accepted.
