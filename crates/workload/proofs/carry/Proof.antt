@@ -1,6 +1,5 @@
 -- The lesser of the work in the definition's length and the cap, whether that length fits 32 bits or not. Assumes nothing.
 use mathlib.Core.Path.{refl, _∙_}
-use native.Mathlib.Omega.{arith}
 use Rattle.workload.specs.Workload.{carry}
 use Rattle.workload.specs.WorkloadLaws.{cap-fits}
 use borrow.Author.Needs.{needs}
