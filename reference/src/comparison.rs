@@ -1,16 +1,16 @@
 //! Compares the answers of a program, case by case, with those expected.
 
-mod all;
 mod listings;
+mod rounds;
+mod subject;
 
-pub use all::{compare_all, Comparison};
-pub use listings::compare_listings;
+pub use rounds::{compare_by_rounds, Comparison};
+pub use subject::Subject;
 
 use crate::exam::{refuses_before_work, Answer};
 use crate::program::Program;
 use std::io;
 use std::ops::AddAssign;
-use std::process::ExitCode;
 
 const BATCH: usize = 4000;
 const SHOWN: usize = 3;
@@ -42,7 +42,7 @@ impl AddAssign for Tally {
 }
 
 impl Tally {
-    pub fn count(&mut self, refused: bool, difference: Option<String>) {
+    fn count(&mut self, refused: bool, difference: Option<String>) {
         self.inputs += 1;
         self.refused += usize::from(refused);
         if let Some(text) = difference {
@@ -82,10 +82,7 @@ impl Tally {
 }
 
 /// Puts the cases to the program, thousands in a run, and compares each answer whole.
-pub fn compare<C: Asked>(
-    program: &Program,
-    mut cases: impl Iterator<Item = C>,
-) -> io::Result<Tally> {
+fn compare<C: Asked>(program: &Program, mut cases: impl Iterator<Item = C>) -> io::Result<Tally> {
     let mut tally = Tally::default();
     loop {
         let batch: Vec<C> = cases.by_ref().take(BATCH).collect();
@@ -93,19 +90,5 @@ pub fn compare<C: Asked>(
             return Ok(tally);
         }
         tally.compare_batch(program, &batch)?;
-    }
-}
-
-/// Prints what has been seen under a name; the exit status is 1 on any difference.
-pub fn conclude(name: &str, program: &Program, seen: io::Result<Tally>) -> ExitCode {
-    match seen {
-        Ok(Tally { inputs, refused, differences }) => {
-            println!("{name}: {inputs} inputs ({refused} refused), {differences} differences");
-            ExitCode::from(u8::from(differences > 0))
-        }
-        Err(fault) => {
-            eprintln!("{}: {fault}", program.path);
-            ExitCode::FAILURE
-        }
     }
 }

@@ -1,13 +1,11 @@
 //! The independent program: every public function defined a second time, as
-//! plainly as possible, with cases and a comparison for the program `exam`.
+//! plainly as possible, with cases and a comparison.
 //!
-//! `compare EXAM_PROGRAM` runs generated cases through the program and compares
-//! every answer whole; `compare_host`, `compare_records` and `compare_listing`
-//! do so with the host entry, the entry for records and the listing program,
-//! `compare_all` with all of them, also for a length of time; `cases` writes
-//! cases and answers to files; `stand_in` answers in a program's place;
-//! `simulate` runs accepted tables in random legal schedules and counts late
-//! jobs; `example_books` writes the books in `examples/`.
+//! `compare` puts generated cases to the program `exam`, to both entries that C
+//! and Rust link and to the listing program, and compares every answer whole;
+//! `cases` writes cases and answers to files; `stand_in` answers in a program's
+//! place; `simulate` runs accepted tables in random legal schedules and counts
+//! late jobs; `example_books` writes the books in `examples/`.
 #![forbid(unsafe_code)]
 
 pub mod audit;

@@ -1,5 +1,6 @@
 //! Command-line options of the programs.
 
+use crate::comparison::Subject;
 use crate::exam::KINDS;
 use crate::program::Program;
 use std::time::Duration;
@@ -55,33 +56,6 @@ impl Options {
     }
 }
 
-/// `[--inputs N] [--seed S] -- PROGRAM [ARGUMENT...]`
-#[derive(Clone, Debug, PartialEq, Eq)]
-pub struct ProgramOptions {
-    pub inputs: usize,
-    pub seed: u64,
-    pub program: Program,
-}
-
-impl ProgramOptions {
-    pub fn parse(arguments: impl Iterator<Item = String>) -> Result<ProgramOptions, String> {
-        let mut arguments = arguments.skip(1);
-        let (mut inputs, mut seed) = (1000, 1);
-        loop {
-            let name = arguments.next().ok_or("-- and a program are needed")?;
-            match name.as_str() {
-                "--inputs" => inputs = number(&name, arguments.next())?,
-                "--seed" => seed = number(&name, arguments.next())?,
-                "--" => break,
-                _ => return Err(format!("{name} is no option")),
-            }
-        }
-        let path = arguments.next().ok_or("a program is needed")?;
-        let program = Program { path, arguments: arguments.collect() };
-        Ok(ProgramOptions { inputs, seed, program })
-    }
-}
-
 /// How far a comparison goes.
 #[derive(Clone, Copy, Debug, PartialEq, Eq)]
 pub enum Extent {
@@ -103,26 +77,34 @@ fn minutes(name: &str, text: Option<String>) -> Result<Extent, String> {
     time.map(Extent::Time).map_err(|fault| format!("{name}: {fault}"))
 }
 
-/// `(--inputs N | --minutes M) [--kinds 1,2,3] [--seed S] -- RUN [ARGUMENT...]`
+/// Those named, in the sequence in which all are compared.
+fn only(name: &str, text: Option<String>) -> Result<Vec<Subject>, String> {
+    let text = text.ok_or(format!("{name} needs names"))?;
+    let subject = |text| Subject::named(text).ok_or(format!("{name} knows no \"{text}\""));
+    let named: Vec<Subject> = text.split(',').map(subject).collect::<Result<_, _>>()?;
+    Ok(Subject::all().filter(|subject| named.contains(subject)).collect())
+}
+
+/// `(--inputs N | --minutes M) [--only NAME,NAME...] [--seed S] -- RUN [ARGUMENT...]`
 #[derive(Clone, Debug, PartialEq, Eq)]
-pub struct AllOptions {
+pub struct CompareOptions {
     pub extent: Extent,
-    pub kinds: Vec<u8>,
+    pub subjects: Vec<Subject>,
     pub seed: u64,
     pub runner: Program,
 }
 
-impl AllOptions {
-    pub fn parse(arguments: impl Iterator<Item = String>) -> Result<AllOptions, String> {
+impl CompareOptions {
+    pub fn parse(arguments: impl Iterator<Item = String>) -> Result<CompareOptions, String> {
         let mut arguments = arguments.skip(1);
         let (mut extent, mut seed) = (None, 1);
-        let mut all_kinds = KINDS.iter().map(|&(kind, _)| kind).collect();
+        let mut subjects = Subject::all().collect();
         loop {
             let name = arguments.next().ok_or("-- and a program are needed")?;
             match name.as_str() {
                 "--inputs" => extent = Some(inputs(&name, arguments.next())?),
                 "--minutes" => extent = Some(minutes(&name, arguments.next())?),
-                "--kinds" => all_kinds = kinds(arguments.next())?,
+                "--only" => subjects = only(&name, arguments.next())?,
                 "--seed" => seed = number(&name, arguments.next())?,
                 "--" => break,
                 _ => return Err(format!("{name} is no option")),
@@ -131,7 +113,7 @@ impl AllOptions {
         let extent = extent.ok_or("--inputs or --minutes is needed")?;
         let path = arguments.next().ok_or("a program is needed")?;
         let runner = Program { path, arguments: arguments.collect() };
-        Ok(AllOptions { extent, kinds: all_kinds, seed, runner })
+        Ok(CompareOptions { extent, subjects, seed, runner })
     }
 }
 

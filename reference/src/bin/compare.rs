@@ -1,47 +1,48 @@
-//! Compares the program `exam`, case by case, with the independent definitions.
-//! Exit status 1 on any difference or an output of another length.
+//! Compares programs, answer by answer, with the independent definitions: the kinds of `exam`,
+//! the host entry put through `examine`, the entry for records put through `examine_records`, and
+//! `listing`; with `--only` those named. RUN is the command that runs a program when its name is
+//! added. Exit status 1 on any difference.
 #![forbid(unsafe_code)]
 
-use reference::comparison::{compare, Tally};
-use reference::exam::kind_name;
-use reference::gen::{Generator, Size};
-use reference::options::Options;
-use reference::program::Program;
+use reference::comparison::{compare_by_rounds, Subject, Tally};
+use reference::options::CompareOptions;
 use std::env;
-use std::io;
 use std::process::ExitCode;
 
-const USAGE: &str =
-    "usage: compare EXAM_PROGRAM [--kinds 1,2,3] [--inputs N] [--seed S] [-- PROGRAM_ARGUMENT...]";
+const USAGE: &str = "usage: compare (--inputs N | --minutes M) [--only NAME,NAME...] [--seed S] \
+                     -- RUN [ARGUMENT...]";
 
-fn compare_all(options: &Options) -> io::Result<bool> {
-    let path = options.paths[0].clone();
-    let program = Program { path, arguments: options.program_arguments.clone() };
-    let mut same = true;
-    for &kind in &options.kinds {
-        let cases = Generator::new(kind, Size::Full, options.seed).take(options.inputs);
-        let Tally { inputs, refused, differences } = compare(&program, cases)?;
-        let name = kind_name(kind);
-        println!("{name}: {inputs} inputs ({refused} malformed), {differences} differences");
-        same &= differences == 0;
-    }
-    Ok(same)
+/// The names as `--only` takes them.
+fn names() -> String {
+    let names: Vec<String> =
+        Subject::all().map(|subject| subject.name().replace(' ', "-")).collect();
+    names.join(",")
+}
+
+fn print_line(name: &str, Tally { inputs, refused, differences }: Tally) {
+    println!("{name}: {inputs} inputs ({refused} malformed), {differences} differences");
 }
 
 fn main() -> ExitCode {
-    let options = match Options::parse(env::args(), 1) {
+    let options = match CompareOptions::parse(env::args()) {
         Ok(options) => options,
         Err(fault) => {
-            eprintln!("{fault}\n{USAGE}");
+            eprintln!("{fault}\n{USAGE}\nnames: {}", names());
             return ExitCode::from(2);
         }
     };
-    match compare_all(&options) {
-        Ok(true) => ExitCode::SUCCESS,
-        Ok(false) => ExitCode::FAILURE,
+    let comparisons = match compare_by_rounds(&options) {
+        Ok(comparisons) => comparisons,
         Err(fault) => {
-            eprintln!("{}: {fault}", options.paths[0]);
-            ExitCode::FAILURE
+            eprintln!("{}: {fault}", options.runner.path);
+            return ExitCode::FAILURE;
         }
+    };
+    let mut total = Tally::default();
+    for comparison in comparisons {
+        print_line(comparison.subject.name(), comparison.tally);
+        total += comparison.tally;
     }
+    print_line("total", total);
+    ExitCode::from(u8::from(total.differences > 0))
 }

@@ -31,7 +31,7 @@ fn compare_one(tally: &mut Tally, book: &[u8], answered: &[u8]) {
 }
 
 /// Puts each book to a run of its own and compares the text.
-pub fn compare_listings(
+pub(super) fn compare_listings(
     program: &Program,
     mut books: impl Iterator<Item = Vec<u8>>,
 ) -> io::Result<Tally> {
