@@ -5,16 +5,6 @@ use crate::exam::KINDS;
 use crate::program::Program;
 use std::time::Duration;
 
-/// `PATH... [--kinds 1,2,3] [--inputs N] [--seed S] [-- ARGUMENT...]`
-#[derive(Clone, Debug, PartialEq, Eq)]
-pub struct Options {
-    pub paths: Vec<String>,
-    pub kinds: Vec<u8>,
-    pub inputs: usize,
-    pub seed: u64,
-    pub program_arguments: Vec<String>,
-}
-
 fn number<T: std::str::FromStr>(name: &str, text: Option<String>) -> Result<T, String> {
     let text = text.ok_or(format!("{name} needs a number"))?;
     text.parse().map_err(|_| format!("{name} needs a number, not {text}"))
@@ -29,30 +19,31 @@ fn kinds(text: Option<String>) -> Result<Vec<u8>, String> {
     text.split(',').map(kind).collect()
 }
 
-impl Options {
-    pub fn parse(arguments: impl Iterator<Item = String>, paths: usize) -> Result<Options, String> {
+/// `STDIN_FILE STDOUT_FILE [--kinds 1,2,3] [--inputs N] [--seed S]`
+#[derive(Clone, Debug, PartialEq, Eq)]
+pub struct CasesOptions {
+    pub paths: [String; 2],
+    pub kinds: Vec<u8>,
+    pub inputs: usize,
+    pub seed: u64,
+}
+
+impl CasesOptions {
+    pub fn parse(arguments: impl Iterator<Item = String>) -> Result<CasesOptions, String> {
         let mut arguments = arguments.skip(1);
-        let mut options = Options {
-            paths: Vec::new(),
-            kinds: KINDS.iter().map(|&(kind, _)| kind).collect(),
-            inputs: 1000,
-            seed: 1,
-            program_arguments: Vec::new(),
-        };
+        let (mut paths, mut inputs, mut seed) = (Vec::new(), 1000, 1);
+        let mut all_kinds = KINDS.iter().map(|&(kind, _)| kind).collect();
         while let Some(argument) = arguments.next() {
             match argument.as_str() {
-                "--kinds" => options.kinds = kinds(arguments.next())?,
-                "--inputs" => options.inputs = number("--inputs", arguments.next())?,
-                "--seed" => options.seed = number("--seed", arguments.next())?,
-                "--" => options.program_arguments = arguments.by_ref().collect(),
-                _ => options.paths.push(argument),
+                "--kinds" => all_kinds = kinds(arguments.next())?,
+                "--inputs" => inputs = number("--inputs", arguments.next())?,
+                "--seed" => seed = number("--seed", arguments.next())?,
+                _ => paths.push(argument),
             }
         }
-        if options.paths.len() == paths {
-            Ok(options)
-        } else {
-            Err(format!("{paths} paths needed, {} given", options.paths.len()))
-        }
+        let counted = |paths: Vec<String>| format!("2 paths needed, {} given", paths.len());
+        let paths = paths.try_into().map_err(counted)?;
+        Ok(CasesOptions { paths, kinds: all_kinds, inputs, seed })
     }
 }
 

@@ -3,14 +3,14 @@
 #![forbid(unsafe_code)]
 
 use reference::gen::{Generator, Size};
-use reference::options::Options;
+use reference::options::CasesOptions;
 use std::env;
 use std::fs;
 use std::process::ExitCode;
 
 const USAGE: &str = "usage: cases STDIN_FILE STDOUT_FILE [--kinds 1,2,3] [--inputs N] [--seed S]";
 
-fn write_files(options: &Options) -> std::io::Result<usize> {
+fn write_files(options: &CasesOptions) -> std::io::Result<usize> {
     let (mut cases, mut answers) = (Vec::new(), Vec::new());
     for &kind in &options.kinds {
         for case in Generator::new(kind, Size::Small, options.seed).take(options.inputs) {
@@ -24,7 +24,7 @@ fn write_files(options: &Options) -> std::io::Result<usize> {
 }
 
 fn main() -> ExitCode {
-    let options = match Options::parse(env::args(), 2) {
+    let options = match CasesOptions::parse(env::args()) {
         Ok(options) => options,
         Err(fault) => {
             eprintln!("{fault}\n{USAGE}");
