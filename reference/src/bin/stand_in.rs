@@ -1,6 +1,6 @@
-//! Answers by the independent definitions as the program `exam` does, with `--host` or `examine`
-//! as `examine` does, with `--listing` or `listing` as the listing program. `--break K` corrupts
-//! every K-th answer; a listing is one answer.
+//! Answers by the independent definitions as the program named by the last argument does:
+//! `examine`, `listing`, and for any other name `exam`. `--break K` corrupts every K-th answer; a
+//! listing is one answer.
 #![forbid(unsafe_code)]
 
 use reference::comparison::Asked;
@@ -24,14 +24,12 @@ fn all_answers<C: Asked>(input: &[u8], decode: fn(&mut Reader) -> Option<C>) -> 
     iter::from_fn(|| decode(&mut cases)).map(|case| case.answer().to_bytes()).collect()
 }
 
+/// `examine_records` takes the search's cases as `exam` does.
 fn answers(input: &[u8]) -> Vec<Vec<u8>> {
-    let is_asked = |names: [&str; 2]| env::args().any(|argument| names.contains(&&argument[..]));
-    if is_asked(["--listing", "listing"]) {
-        vec![listing(input).into_bytes()]
-    } else if is_asked(["--host", "examine"]) {
-        all_answers(input, HostCase::decode)
-    } else {
-        all_answers(input, Case::decode)
+    match env::args().next_back().as_deref() {
+        Some("listing") => vec![listing(input).into_bytes()],
+        Some("examine") => all_answers(input, HostCase::decode),
+        _ => all_answers(input, Case::decode),
     }
 }
 
