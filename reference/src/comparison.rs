@@ -11,6 +11,7 @@ use crate::exam::{refuses_before_work, Answer};
 use crate::program::Program;
 use std::io;
 use std::ops::AddAssign;
+use std::process::ExitStatus;
 
 const BATCH: usize = 4000;
 const SHOWN: usize = 3;
@@ -57,6 +58,13 @@ impl Tally {
         }
     }
 
+    /// A program that has answered everything must also end well.
+    fn compare_end(&mut self, status: ExitStatus) {
+        if !status.success() {
+            self.differ(&format!("the end: {status}"));
+        }
+    }
+
     fn compare(&mut self, case: &impl Asked, expected: &Answer, answered: &[u8]) {
         let differs = answered != expected.to_bytes();
         let difference = differs.then(|| case.difference(expected, answered));
@@ -66,7 +74,7 @@ impl Tally {
     fn compare_batch(&mut self, program: &Program, cases: &[impl Asked]) -> io::Result<()> {
         let run = program.start(cases.iter().flat_map(Asked::encode).collect())?;
         let expected: Vec<Answer> = cases.iter().map(Asked::answer).collect();
-        let output = run.output()?;
+        let (output, status) = run.output()?;
         let mut rest = &output[..];
         for (case, expected) in cases.iter().zip(&expected) {
             let length = expected.to_bytes().len().min(rest.len());
@@ -77,6 +85,7 @@ impl Tally {
         if !rest.is_empty() {
             self.differ(&format!("the length: {} bytes behind the last answer", rest.len()));
         }
+        self.compare_end(status);
         Ok(())
     }
 }

@@ -1,7 +1,7 @@
 //! Runs a program on an input.
 
 use std::io::{self, Read, Write};
-use std::process::{Child, Command, Stdio};
+use std::process::{Child, Command, ExitStatus, Stdio};
 use std::thread::{self, JoinHandle};
 
 #[derive(Clone, Debug, PartialEq, Eq)]
@@ -43,11 +43,11 @@ impl Program {
 }
 
 impl Run {
-    /// All that the program writes until it ends.
-    pub fn output(mut self) -> io::Result<Vec<u8>> {
+    /// All that the program writes until it ends, and how it ends.
+    pub fn output(mut self) -> io::Result<(Vec<u8>, ExitStatus)> {
         let output = self.reader.join().expect("the reader does not panic")?;
         self.writer.join().expect("the writer does not panic");
-        self.child.wait()?;
-        Ok(output)
+        let status = self.child.wait()?;
+        Ok((output, status))
     }
 }

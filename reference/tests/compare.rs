@@ -118,9 +118,9 @@ fn another_last_byte_of_a_listing_is_seen() {
 #[test]
 fn a_program_that_answers_nothing_is_seen() {
     for name in BUT_LISTING {
-        assert_seen(name, &compare(name, 300, &[CASES]), 300, 300);
+        assert_seen(name, &compare(name, 300, &["true"]), 300, 300);
     }
-    let listing = compare("listing", 1201, &[CASES]);
+    let listing = compare("listing", 1201, &["true"]);
     assert_seen("listing", &listing, 61, 61);
     assert!(text(&listing).contains(", answered nothing\n"));
 }
@@ -148,6 +148,18 @@ fn an_output_that_is_too_long_is_seen() {
     let listing = compare("listing", 20, &longer);
     assert_seen("listing", &listing, 1, 1);
     assert!(text(&listing).contains(r#"line 2: expected nothing, answered "\n""#));
+}
+
+#[test]
+fn a_program_that_ends_badly_is_seen() {
+    let fails = ["sh", "-c", r#""$0" "$@"; exit 3"#, STAND_IN];
+    for name in NAMES {
+        let output = compare(name, 20, &fails);
+        assert_eq!(output.status.code(), Some(1), "{name}");
+        let inputs = if name == "listing" { 1 } else { 20 };
+        assert_eq!(counts(&output)[name], (inputs, 1), "{name}");
+        assert_eq!(text(&output).lines().next(), Some("difference in the end: exit status: 3"));
+    }
 }
 
 #[test]

@@ -44,7 +44,9 @@ pub(super) fn compare_listings(
         let runs: Vec<Run> =
             batch.iter().map(|book| program.start(book.clone())).collect::<io::Result<_>>()?;
         for (book, run) in batch.iter().zip(runs) {
-            compare_one(&mut tally, book, &run.output()?);
+            let (answered, status) = run.output()?;
+            compare_one(&mut tally, book, &answered);
+            tally.compare_end(status);
         }
     }
 }
