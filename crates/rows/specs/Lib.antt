@@ -6,6 +6,7 @@ pub mod Table
 pub mod BoolLaws
 pub mod NumberLaws
 pub mod SumLaws
+pub mod PassLaws
 pub mod SetLaws
 pub mod JudgeLaws
 pub mod TableLaws

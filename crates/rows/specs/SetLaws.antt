@@ -361,3 +361,9 @@ without-absent H k i h =
     ⊎-elim (λ (e : eqb i k ≡ true). let absent : H i ≡ false = ap H (eqb-true i k e) ∙ h in rw absent refl)
     (λ (e : eqb i k ≡ false). rw (e, and-true) refl)
     (either (eqb i k))
+
+-- what is summed over H without row k has 0 in its place
+pub on-without : (H : ℕ → Bool) (k i x : ℕ) → on (without H k i) x ≡ cond (eqb i k) 0 (on (H i) x)
+unfolding without
+on-without H k i x =
+    ⊎-elim (λ (e : eqb i k ≡ true). rw (e, and-false) refl) (λ (e : eqb i k ≡ false). rw (e, and-true) refl) (either (eqb i k))

@@ -1,6 +1,6 @@
 -- Laws of sums, of counts, and of the first number that a test takes, in this order.
 -- Assumes nothing.
-use Prim.Native.Nat.{ℕ, zero, suc, _+_, _*_, _-_, _≤_, _<_, zero-le, min}
+use Prim.Native.Nat.{ℕ, zero, suc, _+_, _*_, _-_, _≤_, _<_, zero-le}
 use mathlib.Core.Path.{_≡_, refl, sym, ap, _∙_}
 use mathlib.Core.Logic.{⊎-elim, _↔_}
 use mathlib.Core.Bool.{Bool, true, false}
@@ -28,6 +28,10 @@ on-ext false false x y e h = refl
 pub on-le : (b : Bool) (x : ℕ) → on b x ≤ x
 on-le true x = le-refl x
 on-le false x = zero-le
+
+pub on-off : (b : Bool) (x : ℕ) → b ≡ false → on b x ≡ 0
+on-off true x h = not-both refl h
+on-off false x h = refl
 
 pub on-true : (b : Bool) → 1 ≤ on b 1 → b ≡ true
 on-true true h = refl
@@ -62,23 +66,6 @@ sum-upto a zero f h = let e : a ≡ 0 = omega arith in rw e (le-refl 0)
 sum-upto a (suc b) f h =
     ⊎-elim (λ (e : a ≡ suc b). rw e (le-refl (sum (suc b) f)))
     (λ (l : a < suc b). omega (arith, sum-upto a b f (le-of-suc-le-suc l)))
-    (eq-or-lt-of-le h)
-
--- and the same where nothing is added, each up to n at most
-pub sum-gap : (a b n : ℕ) (f : ℕ → ℕ) → a ≤ b → ((i : ℕ) → a ≤ i → i < b → f i ≡ 0) → sum (min b n) f ≡ sum (min a n) f
-sum-gap a zero n f h z = let e : a ≡ 0 = omega arith in rw e refl
-sum-gap a (suc b) n f h z =
-    ⊎-elim (λ (e : a ≡ suc b). rw e refl)
-    (λ (l : a < suc b).
-    let rest = sum-gap a b n f (le-of-suc-le-suc l) (λ i p q. z i p (omega arith)) in
-    ⊎-elim
-    (λ (e : ltb b n ≡ true).
-    let less = ltb-true b n e in
-    let more : min (suc b) n ≡ suc b = omega arith in
-    let same : min b n ≡ b = omega arith in
-    rw more (omega (arith, z b (le-of-suc-le-suc l) (le-refl (suc b)), rw same at rest)))
-    (λ (e : ltb b n ≡ false). let past = ltb-false b n e in let same : min (suc b) n ≡ min b n = omega arith in rw same rest)
-    (either (ltb b n)))
     (eq-or-lt-of-le h)
 
 -- the first summand apart

@@ -32,14 +32,10 @@ module _ (n : ℕ) (t : ℕ → Row) where
       add-le-add (sum-mono n _ _ (λ i _. on-mono (H i) (G i) (s i) (le-refl _)))
       (le-trans (top-mono c n _ _ (λ i _. on-mono (H i) (G i) (s i) (le-refl _))) (top-more c c′ n _ l))
 
-  -- it lies between the plain sum and that with all differences
+  -- the plain sum is a part of it
   pub interference-plain : (c : ℕ) (H : ℕ → Bool) (k : Row) → sum n (plainFrom t H k) ≤ interference n t c H k
   unfolding interference
   interference-plain c H k = omega arith
-
-  pub interference-all : (c : ℕ) (H : ℕ → Bool) (k : Row) → interference n t c H k ≤ sum n (plainFrom t H k) + sum n (extraFrom t H k)
-  unfolding interference
-  interference-all c H k = add-le-add (le-refl _) (top-sum c n (extraFrom t H k))
 
   pub passes-used : (m c : ℕ) (H : ℕ → Bool) (k : ℕ) → (passes n t m c H k ≡ true) ↔ (used n t m c H k ≤ t k .d)
   unfolding passes
