@@ -216,3 +216,7 @@ passed-valid words m h =
 pub row-count-most : (words : List ℕ) → rowCount words ≤ 96
 unfolding rowCount
 row-count-most words = omega arith
+
+-- so that a mask has a bit for each
+pub row-count-bits : (words : List ℕ) → rowCount words ≤ 128
+row-count-bits words = omega (arith, row-count-most words)
