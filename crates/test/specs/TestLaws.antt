@@ -1,16 +1,16 @@
 -- Laws of the test, in the words of document 01, each over the number c of carry-ins.
 -- A smaller set above and fewer carry-ins interfere no more; a row passes exactly when the interference is below cap · m; with fewer than m rows above it always passes; equal rows and sets give equal answers; what fits which width.
 -- Assumes nothing.
-use Prim.Native.Nat.{ℕ, _+_, _*_, _-_, _/_, _^_, _≤_, _<_}
-use mathlib.Core.Path.{_≡_, sym, ap, ap₂, _∙_}
-use mathlib.Core.Logic.{_↔_, ⊎-elim}
-use mathlib.Core.Bool.{Bool, true, false}
+use Prim.Native.Nat.{ℕ, zero, suc, _+_, _*_, _-_, _/_, _^_, _≤_, _<_}
+use mathlib.Core.Path.{_≡_, ap, ap₂, _∙_}
+use mathlib.Core.Logic.{_↔_}
+use mathlib.Core.Bool.{Bool, true, false, _||_, or-true, or-false}
 use native.Mathlib.Omega.{arith}
 use native.Mathlib.Nat.{le-trans, le-refl, add-le-add, mul-le-mul-right, mul-le-mul-left, div-lt-iff-lt-mul, div-le-self, div-zero, add-zero}
-use lib.Dec.{leb, ltb}
-use borrow.Author.Tests.{leb-true, le-leb, ltb-true, ltb-false}
-use Rattle.rows.specs.BoolLaws.{either}
-use Rattle.rows.specs.NumberLaws.{div-mono}
+use lib.Dec.{leb, ltb, eqb, eqb·suc-zero}
+use borrow.Author.Tests.{leb-true, le-leb, lt-ltb, ltb-true}
+use Rattle.rows.specs.BoolLaws.{same}
+use Rattle.rows.specs.NumberLaws.{div-mono, ltb-shift}
 use Rattle.rows.specs.Sums.{on, sum, count}
 use Rattle.rows.specs.SumLaws.{on-mono, on-ext, on-le, sum-mono, sum-ext, sum-add, sum-scale, count-le}
 use Rattle.rows.specs.Sets.{_⊆_}
@@ -18,7 +18,7 @@ use Rattle.rows.specs.declared.table.Row.{Row}
 use Rattle.rows.specs.TableLaws.{Ranged}
 use Rattle.workload.specs.Workload.{plain, extra, cap}
 use Rattle.workload.specs.WorkloadLaws.{plain-cap, extra-cap, plain-extra, carry-cap, cap-fits}
-use Rattle.test.specs.Test.{plainFrom, extraFrom, interference, used, passes}
+use Rattle.test.specs.Test.{top, plainFrom, extraFrom, interference, used, passes}
 use Rattle.test.specs.TopLaws.{top-mono, top-more, top-sum, top-ext}
 
 -- with fewer rows above it a row that passed still passes
@@ -32,10 +32,11 @@ module _ (n : ℕ) (t : ℕ → Row) where
       add-le-add (sum-mono n _ _ (λ i _. on-mono (H i) (G i) (s i) (le-refl _)))
       (le-trans (top-mono c n _ _ (λ i _. on-mono (H i) (G i) (s i) (le-refl _))) (top-more c c′ n _ l))
 
-  -- the plain sum is a part of it
-  pub interference-plain : (c : ℕ) (H : ℕ → Bool) (k : Row) → sum n (plainFrom t H k) ≤ interference n t c H k
+  -- it stays below a limit where the largest differences stay below what the plain sum leaves of that
+  pub interference-below : (c : ℕ) (H : ℕ → Bool) (k : Row) (limit : ℕ)
+      → ltb (top c n (extraFrom t H k)) (limit - sum n (plainFrom t H k)) ≡ ltb (interference n t c H k) limit
   unfolding interference
-  interference-plain c H k = omega arith
+  interference-below c H k limit = ltb-shift (sum n (plainFrom t H k)) (top c n (extraFrom t H k)) limit
 
   pub passes-used : (m c : ℕ) (H : ℕ → Bool) (k : ℕ) → (passes n t m c H k ≡ true) ↔ (used n t m c H k ≤ t k .d)
   unfolding passes
@@ -76,21 +77,14 @@ module _ (n : ℕ) (t : ℕ → Row) where
   passes-few m c H k v h =
       (passes-iff m c H k (omega arith) v) .1 (omega (arith, interference-cap c H (t k), mul-le-mul-right (cap (t k)) h))
 
-  -- and without any cores, where used is C
-  pub passes-no-cores : (c : ℕ) (H : ℕ → Bool) (k : ℕ) → t k .c ≤ t k .d → passes n t 0 c H k ≡ true
+  -- a row passes where the interference stays below cap · m, and only there; and without cores, where used is C
+  pub passes-below : (m c : ℕ) (H : ℕ → Bool) (k : ℕ) → t k .c ≤ t k .d
+      → passes n t m c H k ≡ ltb (interference n t c H (t k)) (cap (t k) * m) || eqb m 0
   unfolding used
-  passes-no-cores c H k v = (passes-used 0 c H k) .1 (rw (div-zero, add-zero) v)
-
-  -- a row passes where the interference stays below cap · m, and only there
-  pub passes-below : (m c : ℕ) (H : ℕ → Bool) (k : ℕ) → 0 < m → t k .c ≤ t k .d
-      → passes n t m c H k ≡ ltb (interference n t c H (t k)) (cap (t k) * m)
-  passes-below m c H k p v =
-      let i = passes-iff m c H k p v in
-      let a = interference n t c H (t k) in
-      let b = cap (t k) * m in
-      ⊎-elim (λ (e : ltb a b ≡ true). i .1 (ltb-true a b e) ∙ sym e)
-      (λ (e : ltb a b ≡ false). ⊎-elim (λ (y : passes n t m c H k ≡ true). absurd (omega (arith, i .0 y, ltb-false a b e))) (λ y. y ∙ sym e) (either (passes n t m c H k)))
-      (either (ltb a b))
+  passes-below zero c H k v = rw or-true ((passes-used 0 c H k) .1 (rw (div-zero, add-zero) v))
+  passes-below (suc m) c H k v =
+      let i = passes-iff (suc m) c H k (omega arith) v in
+      rw (eqb·suc-zero, or-false) (same _ _ (λ h. lt-ltb _ _ (i .0 h)) (λ h. i .1 (ltb-true _ _ h)))
 
   -- used of a row in range, with at most 95 others above it, fits 32 bits
   pub used-small : (m c : ℕ) (H : ℕ → Bool) (k : ℕ) → Ranged (t k) → count n H ≤ 95 → used n t m c H k ≤ 950_000_001
