@@ -1,12 +1,14 @@
 /*
- * Measures the stack of heralinda_search: measure_stack BOOK... says for each book the number answered and how many
- * bytes of stack beneath the call were written. The call runs on a stack of its own, painted before; what the same
- * call of an empty function writes is taken off. Bytes that are set aside beneath the last one written do not count.
+ * Measures the stack of heralinda_search: measure_stack [--at-most BYTES] BOOK... says for each book the number answered
+ * and how many bytes of stack beneath the call were written; where a book took more than BYTES the status is 1. The call
+ * runs on a stack of its own, painted before; what the same call of an empty function writes is taken off. Bytes that
+ * are set aside beneath the last one written do not count.
  */
 #define _XOPEN_SOURCE 700
 #include "heralinda.h"
 
 #include <stdio.h>
+#include <stdlib.h>
 #include <string.h>
 #include <ucontext.h>
 
@@ -74,7 +76,7 @@ static int read_book(const char *name) {
     return fclose(file) == 0;
 }
 
-static int measure(const char *name) {
+static int measure(const char *name, size_t most) {
     if (!read_book(name)) {
         fprintf(stderr, "measure_stack: cannot read %s\n", name);
         return 0;
@@ -88,18 +90,23 @@ static int measure(const char *name) {
         return 0;
     }
     printf("%s: number %u, %zu bytes of stack\n", name, (unsigned)number, all - nothing);
-    return 1;
+    return all - nothing <= most;
 }
 
 int main(int count, char **words) {
-    if (count < 2) {
-        fprintf(stderr, "usage: measure_stack BOOK...\n");
+    size_t most = STACK;
+    int first = 1;
+    if (count > 2 && strcmp(words[1], "--at-most") == 0) {
+        most = strtoul(words[2], NULL, 10);
+        first = 3;
+    }
+    if (count <= first) {
+        fprintf(stderr, "usage: measure_stack [--at-most BYTES] BOOK...\n");
         return 2;
     }
-    for (int i = 1; i < count; i++) {
-        if (!measure(words[i])) {
-            return 1;
-        }
+    int within = 1;
+    for (int i = first; i < count; i++) {
+        within &= measure(words[i], most);
     }
-    return 0;
+    return within ? 0 : 1;
 }
