@@ -93,16 +93,24 @@ static int measure(const char *name, size_t most) {
     return all - nothing <= most;
 }
 
+static int usage(void) {
+    fprintf(stderr, "usage: measure_stack [--at-most BYTES] BOOK...\n");
+    return 2;
+}
+
 int main(int count, char **words) {
     size_t most = STACK;
     int first = 1;
     if (count > 2 && strcmp(words[1], "--at-most") == 0) {
-        most = strtoul(words[2], NULL, 10);
+        char *end;
+        most = strtoul(words[2], &end, 10);
+        if (end == words[2] || *end != '\0') {
+            return usage();
+        }
         first = 3;
     }
     if (count <= first) {
-        fprintf(stderr, "usage: measure_stack [--at-most BYTES] BOOK...\n");
-        return 2;
+        return usage();
     }
     int within = 1;
     for (int i = first; i < count; i++) {
