@@ -1,8 +1,8 @@
 /*
- * Measures the stack of heralinda_search: measure_stack [--at-most BYTES] BOOK... says for each book the number answered
- * and how many bytes of stack beneath the call were written; where a book took more than BYTES the status is 1. The call
- * runs on a stack of its own, painted before; what the same call of an empty function writes is taken off. Bytes that
- * are set aside beneath the last one written do not count.
+ * Measures the stack of heralinda_search: measure_stack [--at-most BYTES] BOOK... says for each book the number
+ * answered and how many bytes of stack beneath the call were written; the status is 1 where a book took more than
+ * BYTES. The call runs on a stack of its own, painted before; what the same call of an empty function writes is taken
+ * off. Bytes that are set aside beneath the last one written do not count.
  */
 #define _XOPEN_SOURCE 700
 #include "heralinda.h"
