@@ -33,6 +33,13 @@ and-fails true b (inl h) = absurd (true≢false h)
 and-fails true b (inr h) = h
 and-fails false b h = refl
 
+pub and-swap : (a b c : Bool) → a && b && c ≡ a && c && b
+and-swap true true true = refl
+and-swap true true false = refl
+and-swap true false true = refl
+and-swap true false false = refl
+and-swap false b c = refl
+
 pub and-not : (a b : Bool) → a && not b ≡ true → (a ≡ true) × (b ≡ false)
 and-not true true h = absurd (false≢true h)
 and-not true false h = (refl, refl)

@@ -7,16 +7,16 @@ use mathlib.Core.Logic.{⊎-elim, _↔_}
 use mathlib.Core.Bool.{Bool, true, false, cond, not, _||_, _&&_, and-true, and-false}
 use native.Mathlib.Omega.{arith}
 use native.Mathlib.Numerals.{add-one}
-use native.Mathlib.Nat.{add-comm, div-one, mod-lt, zero-lt-suc, div-eq-of-lt, add-zero, zero-add, suc-add, pow-suc, one-mul, mul-div-cancel, mul-mod-left, two-pow-succ, eq-or-lt-of-le, le-of-suc-le-suc, le-refl, lt-of-lt-of-le}
+use native.Mathlib.Nat.{add-comm, div-one, mod-lt, zero-lt-suc, div-eq-of-lt, add-zero, zero-add, suc-add, pow-suc, one-mul, mul-div-cancel, mul-mod-left, two-pow-succ, eq-or-lt-of-le, le-of-suc-le-suc, le-refl, lt-of-lt-of-le, ne-of-lt}
 use lib.Dec.{eqb, ltb, leb·suc-zero, leb·suc-suc, eqb·zero-suc, eqb·suc-zero, eqb·suc-suc}
 use lib.Arith.{digits-mod, digits-div, digits-lt, lt-one}
 use lib.Pow.{pow-mono, pow-lt, pow-add, pow-pos, shr-shr, shr-lt, shl-exact}
 use lib.Bits.{bitOr, or-shr, or-step, block-odd, block-half}
 use lib.Count.{ones, ones-step, ones-cat, trailingZeros, under}
-use borrow.Author.Tests.{ltb-true, ltb-false, eqb-true, lt-ltb}
-use Rattle.rows.specs.BoolLaws.{either, not-both, and-not, not-and}
-use Rattle.rows.specs.Sums.{on, count, first}
-use Rattle.rows.specs.SumLaws.{count-zero-iff, sum-front, on-le, first-is, first-only}
+use borrow.Author.Tests.{ltb-true, ltb-false, eqb-true, eq-eqb, ne-eqb, lt-ltb}
+use Rattle.rows.specs.BoolLaws.{either, not-both, and-swap, and-not, not-and}
+use Rattle.rows.specs.Sums.{on, sum, count, first}
+use Rattle.rows.specs.SumLaws.{count-zero-iff, sum-ext, sum-front, on-le, first-is, first-only}
 use Rattle.rows.specs.Sets.{word, bit, has, mask, setOf, without, below, withRow, withoutRow, size, within}
 use Rattle.rows.specs.declared.sets.Set.{Set}
 
@@ -367,3 +367,37 @@ pub on-without : (H : ℕ → Bool) (k i x : ℕ) → on (without H k i) x ≡ c
 unfolding without
 on-without H k i x =
     ⊎-elim (λ (e : eqb i k ≡ true). rw (e, and-false) refl) (λ (e : eqb i k ≡ false). rw (e, and-true) refl) (either (eqb i k))
+
+-- the row itself, and any other
+pub without-same : (H : ℕ → Bool) (k : ℕ) → without H k k ≡ false
+unfolding without
+without-same H k = rw (eq-eqb k k refl, and-false) refl
+
+pub without-other : (H : ℕ → Bool) (k i : ℕ) → (i ≡ k → ⊥) → without H k i ≡ H i
+unfolding without
+without-other H k i h = rw (ne-eqb i k h, and-true) refl
+
+-- where two sets are alike, and with two rows taken out in either sequence
+pub without-at : (H G : ℕ → Bool) (k i : ℕ) → H i ≡ G i → without H k i ≡ without G k i
+unfolding without
+without-at H G k i e = rw e refl
+
+pub without-swap : (H : ℕ → Bool) (j k i : ℕ) → without (without H j) k i ≡ without (without H k) j i
+unfolding without
+without-swap H j k i = and-swap (H i) (not (eqb i j)) (not (eqb i k))
+
+-- a sum over a set is that over the set without a row, and the row's own
+pub sum-without : (n : ℕ) (H : ℕ → Bool) (k : ℕ) (f : ℕ → ℕ) → k < n → H k ≡ true
+    → sum n (λ i. on (without H k i) (f i)) + f k ≡ sum n (λ i. on (H i) (f i))
+sum-without zero H k f l h = absurd (omega arith)
+sum-without (suc n) H k f l h =
+    ⊎-elim
+    (λ (e : k ≡ n).
+    let rest = sum-ext n (λ i. on (without H k i) (f i)) (λ i. on (H i) (f i)) (λ i q. ap (λ (b : Bool). on b (f i)) (without-other H k i (λ z. ne-of-lt q (z ∙ e)))) in
+    let off : on (without H k n) (f n) ≡ 0 = rw (sym e, without-same H k) refl in
+    let own : on (H n) (f n) ≡ f k = rw (sym e, h) refl in
+    omega (arith, rest, off, own))
+    (λ (q : k < n).
+    let last : on (without H k n) (f n) ≡ on (H n) (f n) = ap (λ (b : Bool). on b (f n)) (without-other H k n (λ z. ne-of-lt q (sym z))) in
+    omega (arith, last, sum-without n H k f q h))
+    (eq-or-lt-of-le (le-of-suc-le-suc l))

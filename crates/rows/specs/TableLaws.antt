@@ -91,6 +91,16 @@ row-within words i =
     (λ (e : inRange (wordsAt words i) ≡ false). rw (read-out-of-range words i e) (omega arith))
     (either (inRange (wordsAt words i)))
 
+-- and D is at most 10,000,000
+pub row-short : (words : List ℕ) (i : ℕ) → table words i .d ≤ 10_000_000
+row-short words i =
+    ⊎-elim
+    (λ (e : inRange (wordsAt words i) ≡ true).
+    let r = in-range (wordsAt words i) e in
+    rw (read-in-range words i e) (omega (arith, r .constrained, r .short)))
+    (λ (e : inRange (wordsAt words i) ≡ false). rw (read-out-of-range words i e) (omega arith))
+    (either (inRange (wordsAt words i)))
+
 -- ---- the checks 1, 2 and 3
 
 abbrev pub wellSized : List ℕ → Bool

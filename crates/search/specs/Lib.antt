@@ -10,6 +10,8 @@ pub mod ChainLaws
 pub mod DemandLaws
 pub mod AnswerLaws
 pub mod TestOfLaws
+pub mod Tally
+pub mod TallyLaws
 pub mod StateLaws
 pub mod LevelLaws
 pub mod CallLaws

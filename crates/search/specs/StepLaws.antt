@@ -141,6 +141,13 @@ module _ {words : List ℕ} {m n quota : ℕ} {s : State} {st : Stand} {tests k 
   stands-placed h =
       rw (S .stand-is) (distinct-less n (testOf words m) (S .progress) (S .distinct) (next-unfinished n (S .progress) k (S .row-is) h))
 
+  -- the row of the next test is one that is left
+  pub stands-left : n ≤ 96 → k < n → has (st .left) k ≡ true
+  stands-left most h =
+      let p = S .progress in
+      let free-row = next-is n (rowsBelow n) (testOf words m) p (next-unfinished n p k (S .row-is) h) .isFree in
+      rw (S .stand-is) (has-unplaced n (p .placed) k most ∙ rw (← (S .row-is)) at free-row)
+
   -- one probe takes it one test on
   pub stands-probe : n ≤ 96 → k < n → tests < quota → {st′ : Stand} {k′ : ℕ} → st′ ≡ probedOf words m n (st .state) (st .left) k
       → k′ ≡ first (has (st′ .left)) (n - st′ .state .cursor) (st′ .state .cursor) → Stands words m n quota s st′ (tests + 1) k′

@@ -11,6 +11,7 @@ use crate::scan;
 use crate::state::State;
 use crate::state::fresh;
 use crate::state::place;
+use crate::tally;
 use rows::Set;
 use rows::numbers;
 
@@ -35,19 +36,20 @@ fn place_all(words: &[u32], m: u32, n: usize) -> Searched
     requires { ⌜ (n ≡ rowCount (now words)) × (1 ≤ m) ⌝ }
     ensures { λ r. ⌜ Searches (now (words .entry)) m (r .state) (r .left) (r .tests) ⌝ }
 {
+    let mut sums = [tally::UNTESTED; 96];
     let mut state = fresh();
     let mut left = Set::below(n);
     let mut tests: u64 = 0;
     let mut placed: usize = 0;
     while placed < n {
-        let level = scan::scan(words, m, left, n);
+        let level = scan::scan(words, m, left, n, &mut sums);
         tests += level.tests;
         let k = level.row;
         if k == n {
             break;
         }
+        left = tally::take(words, n, left, k, &mut sums);
         state = place(state, n, k);
-        left = left.without(k);
         placed += 1;
     }
     Searched { state, left, tests }

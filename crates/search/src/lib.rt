@@ -3,6 +3,7 @@ mod call;
 mod scan;
 mod state;
 mod steps;
+mod tally;
 
 pub use call::Found;
 pub use call::search;

@@ -3,7 +3,10 @@ ghost use mathlib.Core.Path.{_≡_};
 ghost use Prim.Native.Nat.{suc, _-_, _≤_, min};
 ghost use Rattle.rows.specs.Sums.{count, first};
 ghost use Rattle.rows.specs.Sets.{has};
+ghost use Rattle.rows.specs.Table.{rowCount};
 ghost use Rattle.search.specs.Answers.{testOf, passing};
+ghost use Rattle.search.specs.Tally.{Tallied};
+use crate::tally;
 use rows::Set;
 
 // The first row that passed, n where none did, and the tests made.
@@ -27,10 +30,11 @@ pub(crate) fn next_row(left: Set, cursor: usize, n: usize) -> usize
 }
 
 // Tests the rows left, in table sequence, each with all others above it, up to the first that passes.
-pub(crate) fn scan(words: &[u32], m: u32, left: Set, n: usize) -> Scanned
-    requires { ⌜ (n ≤ 96) × (1 ≤ m) ⌝ }
+pub(crate) fn scan(words: &[u32], m: u32, left: Set, n: usize, sums: &mut [u32; 96]) -> Scanned
+    requires { ⌜ (n ≡ rowCount (now words)) × (1 ≤ m) × Tallied (now words) left (now sums) ⌝ }
     ensures { λ r. ⌜ r .row ≡ first (passing (testOf (now (words .entry)) m) (has left)) n 0 ⌝ }
     ensures { λ r. ⌜ r .tests ≡ count (min (suc (r .row)) n) (has left) ⌝ }
+    ensures { λ r. ⌜ Tallied (now (words .entry)) left (now (sums .exit)) ⌝ }
 {
     let mut row = n;
     let mut tests: u64 = 0;
@@ -38,7 +42,7 @@ pub(crate) fn scan(words: &[u32], m: u32, left: Set, n: usize) -> Scanned
     while i < n {
         if left.has(i) {
             tests += 1;
-            if test::passes(words, m, m - 1, left.without(i), i) {
+            if tally::passes(words, m, left, i, sums) {
                 row = i;
                 break;
             }

@@ -2,15 +2,17 @@
 ghost use mathlib.Core.Path.{_≡_};
 ghost use mathlib.Core.Bool.{true};
 ghost use Prim.Native.Nat.{_≤_, _<_};
-ghost use Rattle.rows.specs.Sets.{none, setOf};
+ghost use Rattle.rows.specs.Sets.{has, none, setOf};
 ghost use Rattle.rows.specs.Table.{rowCount};
 ghost use Rattle.search.specs.Search.{rowsBelow, free};
 ghost use Rattle.search.specs.State.{placedRows, sound};
 ghost use Rattle.search.specs.Answers.{steppedOf, StepDemanded, workOf, probedOf};
+ghost use Rattle.search.specs.Tally.{Tallied};
 use crate::scan::next_row;
 use crate::state::State;
 use crate::state::left_of;
 use crate::state::place;
+use crate::tally;
 use rows::Set;
 use rows::numbers;
 
@@ -30,18 +32,20 @@ struct Stand {
 }
 
 // One test, of row k with all others that are left above it.
-fn probe(words: &[u32], m: u32, n: usize, stand: Stand, k: usize) -> Stand
-    requires { ⌜ (n ≤ 96) × (k < n) × (stand .state .placed < n) × (1 ≤ m) ⌝ }
+fn probe(words: &[u32], m: u32, n: usize, stand: Stand, k: usize, sums: &mut [u32; 96]) -> Stand
+    requires { ⌜ (n ≡ rowCount (now words)) × (k < n) × (stand .state .placed < n) × (1 ≤ m) ⌝ }
+    requires { ⌜ (has (stand .left) k ≡ true) × Tallied (now words) (stand .left) (now sums) ⌝ }
     ensures { λ r. ⌜ r ≡ probedOf (now (words .entry)) m n (stand .state) (stand .left) k ⌝ }
+    ensures { λ r. ⌜ Tallied (now (words .entry)) (r .left) (now (sums .exit)) ⌝ }
 {
     let state = stand.state;
     let left = stand.left;
-    let above = left.without(k);
-    if test::passes(words, m, m - 1, above, k) {
+    if tally::passes(words, m, left, k, sums) {
+        let rest = tally::take(words, n, left, k, sums);
         let next = place(state, n, k);
         return Stand {
             state: next,
-            left: above,
+            left: rest,
         };
     }
     let mut next = state;
@@ -55,11 +59,12 @@ fn run(words: &[u32], m: u32, n: usize, state: State, left: Set, quota: u64) -> 
     requires { ⌜ left ≡ setOf (free (rowsBelow n) (placedRows n state)) ⌝ }
     ensures { λ r. ⌜ r ≡ workOf (now (words .entry)) m state quota ⌝ }
 {
+    let mut sums = [tally::UNTESTED; 96];
     let mut stand = Stand { state, left };
     let mut tests: u64 = 0;
     let mut k = next_row(left, state.cursor, n);
     while k < n && tests < quota {
-        stand = probe(words, m, n, stand, k);
+        stand = probe(words, m, n, stand, k, &mut sums);
         tests += 1;
         let now = stand.state;
         let rest = stand.left;

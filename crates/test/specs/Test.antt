@@ -40,6 +40,17 @@ used n t m c H k = t k .c + interference n t c H (t k) / m
 unfoldable pub passes : ℕ → (ℕ → Row) → ℕ → ℕ → (ℕ → Bool) → ℕ → Bool
 passes n t m c H k = leb (used n t m c H k) (t k .d)
 
+-- what a search may keep of one test for the next: the plain interference of row i on row k, and the sum of these over H
+unfoldable pub plainOn : (ℕ → Row) → ℕ → ℕ → ℕ
+plainOn t k i = plain (t k) (t i)
+
+unfoldable pub plainSum : ℕ → (ℕ → Row) → (ℕ → Bool) → ℕ → ℕ
+plainSum n t H k = sum n (plainFrom t H (t k))
+
+-- row k passes where that sum is p
+unfoldable pub passesWith : ℕ → (ℕ → Row) → ℕ → ℕ → (ℕ → Bool) → ℕ → ℕ → Bool
+passesWith n t m c H k p = leb (t k .c + (p + top c n (extraFrom t H (t k))) / m) (t k .d)
+
 -- row k is one of n rows, the set above it holds none but those, and not k itself
 unfoldable pub wellFormed : ℕ → ℕ → Set → Bool
 wellFormed n k above = ltb k n && within above n && not (has above k)

@@ -1,10 +1,10 @@
--- Laws of work and interference: longer lengths hold no less work, the difference is never negative, both interferences stay below the cap, and what fits which width.
+-- Laws of work and interference: longer lengths hold no less work, a period more works C more, the difference is never negative and at most C, both interferences stay below the cap, and what fits which width.
 -- Assumes nothing.
-use Prim.Native.Nat.{ℕ, _+_, _-_, _*_, _/_, _^_, _≤_, _<_, min}
-use mathlib.Core.Path.{_≡_}
+use Prim.Native.Nat.{ℕ, _+_, _-_, _*_, _/_, _%_, _^_, _≤_, _<_, min}
+use mathlib.Core.Path.{_≡_, refl}
 use mathlib.Core.Logic.{⊎-elim}
 use native.Mathlib.Omega.{arith}
-use native.Mathlib.Nat.{mul-le-mul-right, mul-le-mul-left, eq-or-lt-of-le, div-mul-le-self}
+use native.Mathlib.Nat.{mul-zero, add-mul, add-div-right, add-mod-right, mod-eq-sub-div-mul, mul-le-mul-right, mul-le-mul-left, eq-or-lt-of-le, div-mul-le-self}
 use Rattle.rows.specs.declared.table.Row.{Row}
 use Rattle.rows.specs.NumberLaws.{div-mono}
 use Rattle.rows.specs.TableLaws.{Ranged}
@@ -15,6 +15,34 @@ unfolding work
 work-mono i {x} {y} h =
     ⊎-elim (λ (e : x / i .t ≡ y / i .t). rw e (omega arith)) (λ (l : x / i .t < y / i .t). omega (arith, mul-le-mul-right (i .c) l))
     (eq-or-lt-of-le (div-mono (i .t) h))
+
+-- a row without C never works, and takes nothing
+pub work-none : (i : Row) (x : ℕ) → i .c ≡ 0 → work i x ≡ 0
+unfolding work
+work-none i x h = rw (h, mul-zero) (omega arith)
+
+pub plain-none : (k i : Row) → i .c ≡ 0 → plain k i ≡ 0
+unfolding plain
+plain-none k i h = omega (arith, work-none i (k .d) h)
+
+pub extra-none : (k i : Row) → i .c ≡ 0 → extra k i ≡ 0
+unfolding extra carry
+extra-none k i h = omega (arith, work-none i (k .d + (i .d - i .c)) h)
+
+-- in less than a period, and where there is none, a row works up to its C
+pub work-short : (i : Row) (x : ℕ) → x / i .t ≡ 0 → work i x ≡ min (i .c) x
+unfolding work
+work-short i x h = rw h (omega arith)
+
+-- the last part is what a whole number of periods leaves over
+pub work-divided : (i : Row) (x : ℕ) → work i x ≡ x / i .t * i .c + min (i .c) (x % i .t)
+unfolding work
+work-divided i x = rw (mod-eq-sub-div-mul x (i .t)) refl
+
+-- a period more works C more
+pub work-period : (i : Row) (x : ℕ) → 0 < i .t → work i (x + i .t) ≡ work i x + i .c
+work-period i x h =
+    rw (work-divided i (x + i .t), work-divided i x, add-div-right x h, add-mod-right x (i .t), add-mul) (omega arith)
 
 -- the difference of carry-in and plain interference is never negative
 pub plain-carry : (k i : Row) → plain k i ≤ carry k i
@@ -39,6 +67,16 @@ pub extra-cap : (k i : Row) → extra k i ≤ cap k
 extra-cap k i = omega (arith, plain-extra k i, carry-cap k i)
 
 -- ---- ranges
+
+-- the carry-in length of a row in range is less than a period longer, so the difference is at most C
+pub extra-most : (k i : Row) → Ranged i → extra k i ≤ i .c
+unfolding extra carry plain
+extra-most k i r =
+    omega (
+      arith,
+      work-mono i {x = k .d + (i .d - i .c)} {y = k .d + i .t} (omega (arith, r .some, r .within, r .constrained)),
+      work-period i (k .d) (omega (arith, r .some, r .within, r .constrained)),
+    )
 
 -- a row never works more than the length
 pub work-length : (i : Row) (x : ℕ) → i .c ≤ i .t → work i x ≤ x

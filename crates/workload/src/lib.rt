@@ -1,7 +1,7 @@
 // How much a row works in a length, and what it takes from a row below it.
 ghost use mathlib.Core.Path.{_≡_};
 ghost use Prim.Native.Nat.{_-_, _/_, _^_, _≤_, min};
-ghost use Rattle.workload.specs.Workload.{work as Workload·work, part, cap as Workload·cap, plain as Workload·plain, carry as Workload·carry};
+ghost use Rattle.workload.specs.Workload.{work as Workload·work, part, cap as Workload·cap, plain as Workload·plain, carry as Workload·carry, extra as Workload·extra};
 use rows::Row;
 
 fn least(a: u64, b: u64) -> u64
@@ -36,12 +36,15 @@ fn last_part(row: Row, length: u64, whole: u64) -> u64
     least(row.c as u64, length - whole * row.t as u64)
 }
 
-// The work of a row in a length.
+// The work of a row in a length. In less than a period there is nothing to divide.
 pub fn work(row: Row, length: u32) -> u64
     ensures { λ r. ⌜ r ≡ Workload·work row length ⌝ }
 {
-    let whole = periods(length as u64, row.t);
-    whole * row.c as u64 + last_part(row, length as u64, whole)
+    let c = row.c as u64;
+    if row.t == 0 || length < row.t {
+        return least(c, length as u64);
+    }
+    (length / row.t) as u64 * c + least(c, (length % row.t) as u64)
 }
 
 // The work of a row in a length, at most `most`. More whole periods than that already work as much.
@@ -79,4 +82,11 @@ pub fn carry(k: Row, i: Row) -> u64
         return least(work(i, length as u32), cap(k));
     }
     work_up_to(i, length, cap(k))
+}
+
+// The difference that the carry-in of row i adds on row k.
+pub fn extra(k: Row, i: Row) -> u64
+    ensures { λ r. ⌜ r ≡ Workload·extra k i ⌝ }
+{
+    carry(k, i) - plain(k, i)
 }

@@ -13,20 +13,21 @@ use Rattle.rows.specs.Sums.{count, first}
 use Rattle.rows.specs.SumLaws.{count-le, first-taken, first-next, first-end}
 use Rattle.rows.specs.Sets.{has, without}
 use Rattle.search.specs.Answers.{testOf, passing}
+use Rattle.search.specs.Tally.{Tallied}
 use Rattle.search.specs.TestOfLaws.{test-without}
 use Rattle.search.proofs.scan.scan.Statement.{statement}
 use Rattle.search.proofs.scan.scan.Tie as tie
 
 abbrev Inv-loop : tie.InvT-loop
-Inv-loop words m left n row₀ tests₀ i₀ row tests i =
+Inv-loop words m left n sums₀ row₀ tests₀ i₀ sums row tests i =
     (i ≤ n) × (row ≡ n) × (first (passing (testOf words m) (has left)) (n - i) i ≡ first (passing (testOf words m) (has left)) n 0)
-    × (tests ≡ count i (has left))
+    × (tests ≡ count i (has left)) × Tallied words left sums
 
 abbrev μ-loop : tie.MeasureT-loop
-μ-loop words m left n row₀ tests₀ i₀ row tests i = n - i
+μ-loop words m left n sums₀ row₀ tests₀ i₀ sums row tests i = n - i
 
 loop-holds : tie.Need-loop-holds Inv-loop μ-loop
-loop-holds c = (search needs, refl, rw sub-zero refl, refl)
+loop-holds c = (omega arith, refl, rw sub-zero refl, refl, c .before .pre .2)
 
 has-requires : tie.Need-has-requires Inv-loop μ-loop
 has-requires c κs = search needs
@@ -36,14 +37,15 @@ add-tests c =
     let l = c .before .before .before in
     omega (arith, count-le (l .loop .i) (has (l .before .before .args .left)))
 
-sub-passes : tie.Need-sub-passes Inv-loop μ-loop
-sub-passes c = search needs
-
-without-requires : tie.Need-without-requires Inv-loop μ-loop
-without-requires c κs = search needs
-
 passes-requires : tie.Need-passes-requires Inv-loop μ-loop
-passes-requires c κs = search needs
+passes-requires c κs =
+    let l = c .before .before .before .before in
+    let start = l .before .before in (
+      rw (start .pre .0) at (c .before .before .before .loop-test .taken),
+      sym (c .before .before .has .ensures) ∙ c .before .if1 .taken,
+      start .pre .1,
+      l .loop .inv .4,
+    )
 
 add-i : tie.Need-add-i Inv-loop μ-loop
 add-i c = search needs
@@ -66,13 +68,11 @@ loop-again c =
     ⊎-elim
     (λ w.
     let e : H i ≡ true = sym left ∙ w .0 .taken in
-    let f : T (without H i) i ≡ false =
-    sym (test-without (a .words .now) (a .m) (a .left) i) ∙ rw (w .1 .ensures) at (sym (w .2 .ensures) ∙ w .3 .left)
-    in
-    (search needs, v .1, past (and-fails (H i) (T (without H i) i) (inr f)), w .4 ∙ rw (add-one i, e) (omega arith)))
+    let f : T (without H i) i ≡ false = sym (test-without (a .words .now) (a .m) (a .left) i) ∙ sym (w .2 .ensures .0) ∙ w .3 .left in
+    (omega arith, v .1, past (and-fails (H i) (T (without H i) i) (inr f)), w .5 ∙ rw (add-one i, e) (omega arith), rw (w .4) (w .2 .ensures .1)))
     (λ w.
     let e : H i ≡ false = sym left ∙ w .0 .left in
-    (search needs, v .1, past (and-fails (H i) (T (without H i) i) (inl e)), w .1 ∙ rw (add-one i, e) (omega arith)))
+    (omega arith, v .1, past (and-fails (H i) (T (without H i) i) (inl e)), w .2 ∙ rw (add-one i, e) (omega arith), rw (w .1) (v .4)))
     (c .if1 .came)
 
 returns : tie.Need-returns Inv-loop μ-loop
@@ -82,7 +82,7 @@ returns c =
     let v = l .loop .inv in
     let end : l .loop .i ≡ l .loop .row = omega arith in
     let last : min (suc (l .loop .row)) (a .n) ≡ l .loop .i = omega arith in
-    (sym end ∙ sym (first-end _ (a .n) (l .loop .i) (c .loop-test .left)) ∙ v .2, rw last (v .3))
+    (sym end ∙ sym (first-end _ (a .n) (l .loop .i) (c .loop-test .left)) ∙ v .2, (rw last (v .3), v .4))
 
 returns-2 : tie.Need-returns-2 Inv-loop μ-loop
 returns-2 c =
@@ -93,13 +93,10 @@ returns-2 c =
     let i = l .loop .i in
     let v = l .loop .inv in
     let e : H i ≡ true = sym (c .before .before .before .before .has .ensures) ∙ c .before .before .before .if1 .taken in
-    let f : T (without H i) i ≡ true =
-    sym (test-without (a .words .now) (a .m) (a .left) i)
-    ∙ rw (c .before .before .without .ensures) at (sym (c .before .passes .ensures) ∙ c .if2 .taken)
-    in
+    let f : T (without H i) i ≡ true = sym (test-without (a .words .now) (a .m) (a .left) i) ∙ sym (c .before .passes .ensures .0) ∙ c .if2 .taken in
     let last : min (suc i) (a .n) ≡ suc i = omega arith in (
       sym (first-taken (passing T H) (a .n) i (c .before .before .before .before .before .loop-test .taken) (and-in (H i) (T (without H i) i) e f)) ∙ v .2,
-      rw (last, e, v .3) refl,
+      (rw (last, e, v .3) refl, c .before .passes .ensures .1),
     )
 
 pub scan-spec : {M : Type 1} → statement M
@@ -111,8 +108,6 @@ scan-spec =
     loop-holds
     has-requires
     add-tests
-    sub-passes
-    without-requires
     passes-requires
     add-i
     loop-less

@@ -1,0 +1,53 @@
+// What the search keeps between its tests, so that a row that is tested again costs little: for each row left the sum of
+// the plain interferences of the other rows left on it, from its second test on.
+ghost use mathlib.Core.Path.{_≡_};
+ghost use mathlib.Core.Bool.{true};
+ghost use Prim.Native.Nat.{_≤_, _<_};
+ghost use Rattle.rows.specs.Sets.{has, withoutRow};
+ghost use Rattle.rows.specs.Table.{rowCount};
+ghost use Rattle.search.specs.Answers.{testOf};
+ghost use Rattle.search.specs.Tally.{Tallied};
+use rows::Set;
+
+// Stand for a sum that is not known: of a row that was not tested, and of one that was. No sum is as large.
+pub(crate) const UNTESTED: u32 = 0xffff_ffff;
+
+const TESTED: u32 = 0xffff_fffe;
+
+// Whether row k passes with the other rows left above it. The first test of a row makes no sum: it ends where the limit is
+// reached, and in a short step no second one follows.
+pub(crate) fn passes(words: &[u32], m: u32, left: Set, k: usize, sums: &mut [u32; 96]) -> bool
+    requires { ⌜ (k < rowCount (now words)) × (has left k ≡ true) × (1 ≤ m) × Tallied (now words) left (now sums) ⌝ }
+    ensures { λ r. ⌜ r ≡ testOf (now (words .entry)) m (has (withoutRow left k)) k ⌝ }
+    ensures { λ r. ⌜ Tallied (now (words .entry)) left (now (sums .exit)) ⌝ }
+{
+    let above = left.without(k);
+    let mut sum = sums[k];
+    if sum == UNTESTED {
+        sums[k] = TESTED;
+        return test::passes(words, m, m - 1, above, k);
+    }
+    if TESTED <= sum {
+        sum = test::plain_sum(words, above, k);
+        sums[k] = sum;
+    }
+    test::passes_with(words, m, m - 1, above, k, sum)
+}
+
+// The rows left without row k, which is placed. What it takes from each of them comes off their sums.
+pub(crate) fn take(words: &[u32], n: usize, left: Set, k: usize, sums: &mut [u32; 96]) -> Set
+    requires { ⌜ (n ≡ rowCount (now words)) × (k < n) × (has left k ≡ true) × Tallied (now words) left (now sums) ⌝ }
+    ensures { λ r. ⌜ r ≡ withoutRow left k ⌝ }
+    ensures { λ r. ⌜ Tallied (now (words .entry)) (withoutRow left k) (now (sums .exit)) ⌝ }
+{
+    let rest = left.without(k);
+    let mut i = rest.next(0);
+    while i < n {
+        let sum = sums[i];
+        if sum < TESTED {
+            sums[i] = sum - test::plain(words, i, k);
+        }
+        i = rest.next(i + 1);
+    }
+    rest
+}
