@@ -1,6 +1,7 @@
 -- The test decides: a row that passes is placed and taken out of the rows left, a row that fails sets the cursor behind it.
 -- Assumes nothing.
 use mathlib.Core.Path.{_≡_, sym, ap₂, _∙_}
+use native.Mathlib.Omega.{arith}
 use borrow.Author.Needs.{needs}
 use Rattle.rows.specs.Sets.{has, withoutRow}
 use Rattle.rows.specs.TableLaws.{row-count-most}
@@ -26,7 +27,7 @@ take-requires : tie.Need-take-requires
 take-requires c κs =
     let tried = c .before .before in
     let start = tried .before .before .before .before .before in
-    (start .pre .0 .0, start .pre .0 .1, start .pre .1 .0, tried .passes .ensures .1)
+    (omega (arith, start .pre .0 .0), omega (arith, start .pre .0 .1), start .pre .1 .0, tried .passes .ensures .1)
 
 place-requires : tie.Need-place-requires
 place-requires c κs =

@@ -34,14 +34,14 @@ in-sums c = omega (arith, row c, row-count-most (c .before .before .before .befo
 sub-sums : tie.Need-sub-sums Inv-loop μ-loop
 sub-sums c =
     let turn = c .before .before .before in
-    omega (arith, c .plain .ensures, taking-fits _ (turn .before .loop .inv) (row turn) (c .before .if1 .taken))
+    omega (arith, c .plain .ensures, taking-fits _ (turn .before .loop .inv) (row turn) (omega (arith, c .before .if1 .taken)))
 
 loop-again : tie.Need-loop-again Inv-loop μ-loop
 loop-again c =
     let turn = c .before .before .before in
     let inv = turn .before .loop .inv in
-    ⊎-elim (λ w. rw (c .next2 .ensures, w .2) (taking-less _ inv (row turn) (w .1 .result) (w .1 .ensures) (w .0 .taken)))
-    (λ w. rw (c .next2 .ensures, w .1) (taking-unknown _ inv (row turn) (w .0 .left)))
+    ⊎-elim (λ w. rw (c .next2 .ensures, w .2) (taking-less _ inv (row turn) (w .1 .result) (w .1 .ensures) (omega (arith, w .0 .taken))))
+    (λ w. rw (c .next2 .ensures, w .1) (taking-unknown _ inv (row turn) (omega (arith, w .0 .left))))
     (c .before .if1 .came)
 
 returns : tie.Need-returns Inv-loop μ-loop
