@@ -69,7 +69,7 @@ impl Verdict {
 
 /// The bytes of a book of n rows.
 pub fn book_length(n: usize) -> usize {
-    BLOCK * (1 + n.div_ceil(ROWS_PER_BLOCK))
+    BLOCK * (1 + (n + ROWS_PER_BLOCK - 1) / ROWS_PER_BLOCK)
 }
 
 /// The check that belongs to a block, whatever stands in its last two bytes.
@@ -211,7 +211,7 @@ fn words_of_bytes(bytes: &[u8]) -> Vec<u32> {
 
 /// Reading, all checks but the room.
 pub fn parse(book: &[u8]) -> Result<Book, BookRefusal> {
-    let whole_blocks = book.len().is_multiple_of(BLOCK);
+    let whole_blocks = book.len() % BLOCK == 0;
     let blocks = book.len() / BLOCK;
     require(whole_blocks && (1..=MOST_BLOCKS).contains(&blocks), number::BOOK_LENGTH)?;
     check_blocks(book)?;

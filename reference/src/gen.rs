@@ -2,6 +2,7 @@
 //! a mix of full ranges, malformed inputs, edges and realistic tables.
 
 mod books;
+pub mod border;
 mod faults;
 mod limits;
 mod records;
@@ -12,7 +13,6 @@ pub(crate) mod tables;
 
 pub use books::{host_cases, Books};
 pub use records::records_cases;
-pub use tables::border_tables;
 
 use crate::book::{book_length, book_of, Verdict};
 use crate::exam::{refuses_before_work, Case};

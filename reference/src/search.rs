@@ -40,13 +40,17 @@ pub fn audsley_with(table: &Table, carry_ins: usize) -> Found {
     while !unplaced.is_empty() {
         let passes = |&k: &usize| passes_with(table, k, &without(&unplaced, k), carry_ins);
         let first = unplaced.iter().copied().find(passes);
-        let Some(row) = first else {
-            tests += unplaced.len();
-            break;
-        };
-        tests += unplaced.range(..=row).count();
-        unplaced.remove(&row);
-        order.insert(0, row);
+        match first {
+            Some(row) => {
+                tests += unplaced.range(..=row).count();
+                unplaced.remove(&row);
+                order.insert(0, row);
+            }
+            None => {
+                tests += unplaced.len();
+                break;
+            }
+        }
     }
     Found { order, group: unplaced, tests: tests as u64 }
 }

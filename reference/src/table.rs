@@ -96,7 +96,7 @@ impl Lent {
     }
 
     pub fn checked(&self) -> Result<Table, Refusal> {
-        require(self.words.len().is_multiple_of(3) && self.n() <= MOST_ROWS, number::TABLE_LENGTH)?;
+        require(self.words.len() % 3 == 0 && self.n() <= MOST_ROWS, number::TABLE_LENGTH)?;
         require((1..=MOST_CORES).contains(&self.m), number::CORES)?;
         let rows: Vec<Row> = self.words.chunks(3).map(Row::of_words).collect();
         match rows.iter().position(|row| !row.in_range()) {

@@ -9,15 +9,11 @@
 mod direct;
 
 use heralinda::{search, Answer};
-use reference::book::{book_of, Verdict};
-use reference::gen::border_tables;
+use reference::gen::border::{border_books, Side, SIZES, TABLES};
 use reference::host::host;
-use reference::table::Lent;
 use std::hint::black_box;
 use std::time::Instant;
 
-const SIZES: [(usize, u32); 4] = [(31, 4), (48, 4), (96, 4), (96, 32)];
-const TABLES: usize = 24;
 const ROUNDS: usize = 25;
 const LONGEST_BOOK: usize = 2048;
 
@@ -88,14 +84,10 @@ impl Rounds {
     }
 }
 
-fn books(n: usize, m: u32, of_border: fn((Lent, Lent)) -> Lent) -> Vec<Vec<u8>> {
-    let book = |seed| book_of(&of_border(border_tables(seed, n, m)), &Verdict::none());
-    (0..TABLES as u64).map(book).collect()
-}
-
 /// The lines of one verdict, and by which power of n the time grows.
-fn print_lines(verdict: &str, of_border: fn((Lent, Lent)) -> Lent) {
-    let sizes = SIZES.map(|(n, m)| Rounds::measure(&books(n, m, of_border)));
+fn print_lines(side: Side) {
+    let sizes = SIZES.map(|(n, m)| Rounds::measure(&border_books(side, n, m)));
+    let verdict = side.name();
     for ((n, m), rounds) in SIZES.into_iter().zip(&sizes) {
         let [ours, independent, direct] = rounds.times();
         let [first, second] = rounds.ratios();
@@ -114,6 +106,5 @@ fn print_lines(verdict: &str, of_border: fn((Lent, Lent)) -> Lent) {
 fn main() {
     println!("microseconds from book to book: median of {ROUNDS} rounds over {TABLES} tables");
     println!("rows  cores  verdict      ours  independent   ratio   direct   ratio");
-    print_lines("accepted", |(accepted, _)| accepted);
-    print_lines("blocked", |(_, blocked)| blocked);
+    Side::ALL.into_iter().for_each(print_lines);
 }
