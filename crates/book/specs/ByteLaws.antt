@@ -1,20 +1,32 @@
--- Laws of runs, of tests of all numbers, of the sum and the check, and of numbers as bytes, in this order.
+-- Laws of two numbers, of runs, of tests of all numbers, of the sum and the check, and of numbers as bytes, in this order.
 -- Assumes nothing.
-use Prim.Native.Nat.{ℕ, zero, suc, _+_, _-_, _*_, _/_, _%_, _^_, _≤_, _<_}
+use Prim.Native.Nat.{ℕ, zero, suc, _+_, _-_, _*_, _/_, _%_, _^_, _≤_, _<_, zero-le}
 use mathlib.Core.Path.{_≡_, refl, sym, ap, ap₂, _∙_}
-use mathlib.Core.Logic.{⊎-elim}
-use mathlib.Core.Bool.{Bool, true, false}
-use mathlib.Core.List.{List}
+use mathlib.Core.Logic.{_⊎_, inl, inr, ⊎-elim}
+use mathlib.Core.Bool.{Bool, true, false, _&&_}
+use mathlib.Core.List.{List, [], _∷_}
 use native.Mathlib.Omega.{arith}
-use native.Mathlib.Nat.{le-refl, add-zero, mod-eq-of-lt, div-one, zero-div, div-lt-iff-lt-mul, pow-suc, mul-comm, zero-lt-suc, eq-or-lt-of-le, le-of-suc-le-suc, div-div-eq-div-mul, mul-assoc, mul-add-mod-self-right, zero-add, suc-add}
+use native.Mathlib.Nat.{le-refl, add-zero, mod-eq-of-lt, div-one, zero-div, div-lt-iff-lt-mul, pow-suc, mul-comm, zero-lt-suc, eq-or-lt-of-le, le-of-suc-le-suc, div-div-eq-div-mul, mul-assoc, mul-add-mod-self-right, zero-add, suc-add, lt-of-not-le}
+use native.Mathlib.Decide.{decLe}
 use native.Mathlib.Numerals.{add-one}
-use borrow.Author.Tests.{lt-ltb, le-ltb}
+use lib.Dec.{ltb, eqb}
+use borrow.Author.Tests.{lt-ltb, le-ltb, ltb-true, ltb-false, ne-eqb}
 use lib.ListN.{length, getD}
 use lib.Seq.{ext-getD}
 use lib.Arith.{digits-mod, digits-div}
 use lib.Pow.{pow-add}
-use Rattle.rows.specs.BoolLaws.{and-in, and-left, and-right}
-use Rattle.book.specs.Bytes.{byte, big, little, sum16, checkOf, run, all}
+use Rattle.rows.specs.BoolLaws.{either, and-in, and-left, and-right}
+use Rattle.book.specs.Bytes.{byte, big, little, around, sum16, checkOf, run, all}
+use Rattle.book.specs.Parts.{carried}
+
+-- ---- two numbers
+
+pub side : (a b : ℕ) → (a ≤ b) ⊎ (b < a)
+side a b = go (decLe a b)
+  where
+    go : Dec (a ≤ b) → (a ≤ b) ⊎ (b < a)
+    go (yes l) = inl l
+    go (no m) = inr (lt-of-not-le m)
 
 -- ---- runs
 
@@ -34,6 +46,13 @@ pub run-is : (i n : ℕ) (f : ℕ → ℕ) (l : List ℕ) → length l ≡ n →
 run-is i n f l e h =
     ext-getD 0 (run i n f) l (run-length i n f ∙ sym e)
     (λ j k. let k′ : j < n = omega (arith, run-length i n f) in run-at i n f j k′ ∙ h j k′)
+
+pub run-three : (f : ℕ → ℕ) (i x y z : ℕ) → x ≡ f (i + 0) → y ≡ f (i + 1) → z ≡ f (i + 2) → x ∷ y ∷ z ∷ [] ≡ run i 3 f
+unfolding run
+run-three f i x y z p q r =
+    let a : i + 1 ≡ suc i = omega arith in
+    let b : i + 2 ≡ suc (suc i) = omega arith in
+    rw (p, q, r, add-zero i, a, b) refl
 
 -- ---- tests of all numbers below n
 
@@ -58,6 +77,18 @@ all-fails n p i l h = go (all n p) refl
 pub all-more : (n : ℕ) (p : ℕ → Bool) → all n p ≡ true → p n ≡ true → all (n + 1) p ≡ true
 all-more n p h l = rw (add-one n) (and-in (all n p) (p n) h l)
 
+-- a test that holds below s is a test of what follows
+pub all-from : (s m : ℕ) (p g : ℕ → Bool) → ((q : ℕ) → q < s → p q ≡ true) → ((t : ℕ) → t < m → p (s + t) ≡ g t) → all (s + m) p ≡ all m g
+all-from s zero p g h k = rw (add-zero s) (all-make s p h)
+all-from s (suc m) p g h k =
+    let e : s + suc m ≡ suc (s + m) = omega arith in
+    rw (e, all-from s m p g h (λ t l. k t (omega arith)), k m (le-refl (suc m))) refl
+
+-- a sum is 0 where both parts are
+pub zero-sum : (x y : ℕ) → eqb (x + y) 0 ≡ eqb x 0 && eqb y 0
+zero-sum zero y = ap (λ (z : ℕ). eqb z 0) (zero-add y)
+zero-sum (suc x) y = rw (ne-eqb (suc x) 0 (λ e. omega arith)) (ne-eqb (suc x + y) 0 (λ e. omega arith))
+
 -- ---- the sum and the check
 
 pub sum16-ext : (c : ℕ) (f g : ℕ → ℕ) → ((p : ℕ) → p < 2 * c → f p ≡ g p) → sum16 c f ≡ sum16 c g
@@ -66,15 +97,62 @@ sum16-ext zero f g h = refl
 sum16-ext (suc c) f g h =
     rw (sum16-ext c f g (λ p l. h p (omega arith)), h (2 * c) (omega arith), h (2 * c + 1) (omega arith)) refl
 
--- one more word, without and with a carry
-pub sum16-less : (f : ℕ → ℕ) (i s r : ℕ) → s ≡ sum16 i f → r ≡ s + (f (2 * i) * 256 + f (2 * i + 1)) → r < 65536 → r ≡ sum16 (i + 1) f
-unfolding sum16
-sum16-less f i s r h e l = rw (add-one i, ← h, ← e, lt-ltb r 65536 l) refl
+pub carried-some : (s : ℕ) → 0 < s → carried s ≡ 1 + (s - 1) % 65535
+unfolding carried
+carried-some zero h = absurd (omega arith)
+carried-some (suc s) h = let e : suc s - 1 ≡ s = omega arith in rw e refl
 
-pub sum16-more : (f : ℕ → ℕ) (i s t r : ℕ) → s ≡ sum16 i f → t ≡ s + (f (2 * i) * 256 + f (2 * i + 1)) → 65536 ≤ t
-    → r ≡ t - 65536 + 1 → r ≡ sum16 (i + 1) f
+around-less : (t : ℕ) → t < 65536 → around t ≡ t
+around-less t h = rw (lt-ltb t 65536 h) refl
+
+around-more : (t : ℕ) → 65536 ≤ t → around t ≡ t - 65536 + 1
+around-more t h = rw (le-ltb t 65536 h) refl
+
+-- one more word: its carry may be taken around now or with all others
+around-carried : (s w : ℕ) → w < 65536 → around (carried s + w) ≡ carried (s + w)
+unfolding carried
+around-carried zero zero h = refl
+around-carried zero (suc w) h =
+    let e : 0 + suc w ≡ suc w = omega arith in
+    rw e (around-less (suc w) h ∙ omega arith)
+around-carried (suc s) w h =
+    let t : ℕ = 1 + s % 65535 + w in
+    let e : carried (suc s + w) ≡ 1 + (suc s + w - 1) % 65535 = carried-some (suc s + w) (omega arith) in
+    ⊎-elim (λ (l : ltb t 65536 ≡ true). let k = ltb-true t 65536 l in around-less t k ∙ omega (arith, e))
+    (λ (l : ltb t 65536 ≡ false). let k = ltb-false t 65536 l in around-more t k ∙ omega (arith, e))
+    (either (ltb t 65536))
+
+-- two words read as one number
+carried-two : (s u v : ℕ) → carried (s + u + v) ≡ carried (s + (u * 65536 + v))
+carried-two s u v =
+    ⊎-elim (λ (e : 0 ≡ s + u + v). let a : s + u + v ≡ s + (u * 65536 + v) = omega arith in ap carried a)
+    (λ (l : 0 < s + u + v).
+    let a = carried-some (s + u + v) l in
+    let b = carried-some (s + (u * 65536 + v)) (omega arith) in
+    omega (arith, a, b))
+    (eq-or-lt-of-le zero-le)
+
+pub sum16-two : (f : ℕ → ℕ) (c s : ℕ) → ((p : ℕ) → f p < 256) → carried s ≡ sum16 c f
+    → carried (s + big 4 (λ t. f (2 * c + t))) ≡ sum16 (suc (suc c)) f
 unfolding sum16
-sum16-more f i s t r h e l k = rw (add-one i, ← h, ← e, le-ltb t 65536 l) k
+sum16-two f c s h e =
+    let u : ℕ = f (2 * c) * 256 + f (2 * c + 1) in
+    let v : ℕ = f (2 * suc c) * 256 + f (2 * suc c + 1) in
+    let same : (i j : ℕ) → i ≡ j → f i ≡ f j = λ i j r. ap f r in
+    let a : s + big 4 (λ t. f (2 * c + t)) ≡ s + (u * 65536 + v) =
+    omega (arith, same (2 * c + 0) (2 * c) (omega arith), same (2 * c + 2) (2 * suc c) (omega arith), same (2 * c + 3) (2 * suc c + 1) (omega arith))
+    in
+    let x : u < 65536 = omega (arith, h (2 * c), h (2 * c + 1)) in
+    let y : v < 65536 = omega (arith, h (2 * suc c), h (2 * suc c + 1)) in
+    ap carried a ∙ sym (carried-two s u v) ∙ sym (around-carried (s + u) v y) ∙ ap (λ (t : ℕ). around (t + v)) (sym (around-carried s u x))
+    ∙ ap (λ (t : ℕ). around (around (t + u) + v)) e
+
+pub sum16-one : (f : ℕ → ℕ) → ((p : ℕ) → f p < 256) → carried (big 2 f) ≡ sum16 1 f
+unfolding sum16 carried
+sum16-one f h =
+    let w : ℕ = f 0 * 256 + f 1 in
+    let a : big 2 f ≡ 0 + w = omega arith in
+    ap carried a ∙ sym (around-carried 0 w (omega (arith, h 0, h 1)))
 
 pub check-ext : (f g : ℕ → ℕ) → ((p : ℕ) → p < 510 → f p ≡ g p) → checkOf f ≡ checkOf g
 unfolding checkOf

@@ -1,21 +1,24 @@
--- Laws of a verdict's form: an order's entries one at a time, beside the set of the rows seen so far, and the size of a group that fits.
+-- Laws of a verdict's form: an order's entries one at a time, beside the set of the rows seen so far, those behind its rows, and the size of a group that fits.
 -- Assumes nothing.
-use Prim.Native.Nat.{ℕ, _+_, _^_, _≤_, _<_}
-use mathlib.Core.Path.{_≡_, refl, ap}
+use Prim.Native.Nat.{ℕ, _+_, _-_, _^_, _≤_, _<_}
+use mathlib.Core.Path.{_≡_, refl, sym, ap, _∙_}
 use mathlib.Core.Bool.{Bool, true, false, cond, not, _&&_, _||_}
-use mathlib.Core.Logic.{⊎-elim}
+use mathlib.Core.Logic.{_⊎_, inl, inr, ⊎-elim}
 use mathlib.Core.List.{List}
 use native.Mathlib.Omega.{arith}
 use native.Mathlib.Numerals.{add-one}
 use lib.Dec.{ltb, leb, eqb}
 use lib.ListN.{getD}
 use lib.Pow.{pow-pos}
-use borrow.Author.Tests.{ltb-true, eqb-true, leb-true, eq-eqb, ne-eqb}
+use borrow.Author.Tests.{lt-ltb, le-ltb, ltb-true, eqb-true, leb-true, eq-eqb, ne-eqb}
 use Rattle.rows.specs.BoolLaws.{either, and-left, and-right}
 use Rattle.rows.specs.Sets.{word, has, mask, setOf, within, none, withRow}
 use Rattle.rows.specs.SetLaws.{set-ext, has-set-of}
 use Rattle.rows.specs.declared.sets.Set.{Set}
+use Rattle.book.specs.Bytes.{all}
+use Rattle.book.specs.ByteLaws.{side, all-at, all-from, zero-sum}
 use Rattle.book.specs.Form.{among, entryFits, orderFits, groupFits, empty, formed}
+use Rattle.book.specs.Parts.{freeAt, free}
 use Rattle.book.specs.declared.verdicts.Verdict.{Verdict}
 
 module _ (order : List ℕ) where
@@ -28,16 +31,39 @@ module _ (order : List ℕ) where
       rw (add-one i)
       (set-ext _ _ (λ k l. ap (λ (t : Bool). t || eqb k (getD order i 0)) (has-set-of (among order i) k l)))
 
-  pub entry-seen : (p i : ℕ) → p ≤ 128
-      → cond (ltb i p) (ltb (getD order i 0) p && not (has (setOf (among order i)) (getD order i 0))) (eqb (getD order i 0) 255)
-      ≡ entryFits p order i
-  entry-seen p i h =
+  pub entry-seen : (p i : ℕ) → p ≤ 128 → i < p
+      → ltb (getD order i 0) p && not (has (setOf (among order i)) (getD order i 0)) ≡ entryFits p order i
+  entry-seen p i h m =
       let k = getD order i 0 in
-      ⊎-elim
+      rw (lt-ltb i p m)
+      (⊎-elim
       (λ (e : ltb k p ≡ true).
       rw (has-set-of (among order i) k (omega (arith, ltb-true k p e))) refl)
       (λ (e : ltb k p ≡ false). rw e refl)
-      (either (ltb k p))
+      (either (ltb k p)))
+
+-- entries are 255 where what they lack of it adds up to 0
+pub free-none : (p : ℕ) (order : List ℕ) → eqb 0 0 ≡ free p order 0
+unfolding free
+free-none p order = refl
+
+pub free-more : (p : ℕ) (order : List ℕ) (t lack x : ℕ) → x ≡ getD order (p + t) 0 → x < 256 → eqb lack 0 ≡ free p order t
+    → eqb (lack + (255 - x)) 0 ≡ free p order (t + 1)
+unfolding free
+free-more p order t lack x e l h = zero-sum lack (255 - x) ∙ rw (add-one t, ← h, ← e) (ap (λ (b : Bool). eqb lack 0 && b) (go (side 255 x)))
+  where
+    go : (255 ≤ x) ⊎ (x < 255) → eqb (255 - x) 0 ≡ eqb x 255
+    go (inl k) = eq-eqb (255 - x) 0 (omega arith) ∙ sym (eq-eqb x 255 (omega arith))
+    go (inr k) = ne-eqb (255 - x) 0 (λ z. omega arith) ∙ sym (ne-eqb x 255 (λ z. omega arith))
+
+-- an order whose first p entries fit is left to fit by the others
+pub order-rest : (p : ℕ) (order : List ℕ) → p ≤ 96 → all p (entryFits p order) ≡ true → free p order (96 - p) ≡ orderFits p order
+unfolding free orderFits
+order-rest p order h fit =
+    let whole : p + (96 - p) ≡ 96 = omega arith in
+    sym (ap (λ (c : ℕ). all c (entryFits p order)) (sym whole)
+    ∙ all-from p (96 - p) (entryFits p order) (freeAt p order) (λ q l. all-at p (entryFits p order) fit q l)
+    (λ t l. rw (le-ltb (p + t) p (omega arith)) refl))
 
 -- a group that fits n rows has no bit from n on
 pub formed-group : (n : ℕ) (v : Verdict) → formed n v ≡ true → word (v .group) < 2 ^ n

@@ -40,7 +40,7 @@ module _ (e : Edition) (x : Content) where
   unfolding sealed
   sealed-check k p h = rw (le-ltb p 510 h) refl
 
-  opened-inner : (k q : ℕ) → opened e x k (2 + q) ≡ inner e x k q
+  pub opened-inner : (k q : ℕ) → opened e x k (2 + q) ≡ inner e x k q
   unfolding opened
   opened-inner k q = let s : 2 + q - 2 ≡ q = omega arith in rw (le-ltb (2 + q) 2 (omega arith), s) refl
 

@@ -5,11 +5,14 @@ pub mod Write
 pub mod Read
 pub mod Spare
 pub mod Heads
+pub mod Parts
 pub mod Fault
 pub mod ByteLaws
 pub mod OverLaws
+pub mod PartsLaws
 pub mod FaultLaws
 pub mod LayoutLaws
+pub mod BlockLaws
 pub mod ReadLaws
 pub mod SpareLaws
 pub mod FormLaws

@@ -18,12 +18,13 @@ use Rattle.rows.specs.declared.table.Row.{Row}
 use Rattle.rows.specs.declared.table.RowRead.the-variants.{Fine, Fault}
 use Rattle.rows.specs.Judge.{Check}
 use Rattle.rows.specs.JudgeLaws.{Passed, append-passed}
+use Rattle.book.specs.Bytes.{big}
 use Rattle.book.specs.ByteLaws.{run-at, run-length}
 use Rattle.book.specs.Fault.{faultOf}
 use Rattle.book.specs.FaultLaws.{judge-told, fault-first, fault-next}
 use Rattle.book.specs.Form.{formed}
 use Rattle.book.specs.Layout.{Edition, editionOne, longest, blocks}
-use Rattle.book.specs.Read.{wordAt, verdictOf, content, whole, numbered, checked, eachBlock, spelled, lowestBad, blockChecks, headChecks, bodyChecks, readChecks, refused, taken, readOf, readInto}
+use Rattle.book.specs.Read.{place, wordAt, verdictOf, content, whole, numbered, checked, eachBlock, spelled, lowestBad, blockChecks, headChecks, bodyChecks, readChecks, refused, taken, readOf, readInto}
 use Rattle.book.specs.declared.checks.Fault.the-variants.{At, Clear}
 
 -- ---- the blocks, one at a time
@@ -103,6 +104,17 @@ headed b p =
 pub table-at : (e : Edition) (b : List ℕ) (j : ℕ) → j < e .words * getD b 4 0 → getD (content e b .table) j 0 ≡ wordAt e b j
 unfolding content
 table-at e b j h = run-at 0 (e .words * getD b 4 0) (wordAt e b) j h ∙ ap (wordAt e b) (zero-add j)
+
+-- where the three words of row i stand
+place-row : (i t : ℕ) → t < 3 → 512 * (1 + i / 42) + 2 + 12 * (i % 42) + 4 * t ≡ place editionOne (3 * i + t)
+place-row i t h =
+    let d : (3 * i + t) / 126 ≡ i / 42 = omega arith in
+    let r : (3 * i + t) % 126 ≡ 3 * (i % 42) + t = omega arith in
+    rw (d, r) (omega arith)
+
+pub word-row : (b : List ℕ) (i t p : ℕ) → t < 3 → p ≡ 512 * (1 + i / 42) + 2 + 12 * (i % 42) + 4 * t
+    → big 4 (λ s. getD b (p + s) 0) ≡ wordAt editionOne b (3 * i + t)
+word-row b i t p h e = ap (λ (x : ℕ). big 4 (λ s. getD b (x + s) 0)) (e ∙ place-row i t h)
 
 -- a row is read by its words
 pub read-ext : (t u : List ℕ) (i j : ℕ) → wordsAt t i ≡ wordsAt u j → readAt t i ≡ readAt u j

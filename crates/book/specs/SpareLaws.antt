@@ -1,40 +1,31 @@
--- What the code tests for 13: a book whose blocks have their numbers and checks is what writing its content gives exactly where every spare byte is zero.
+-- What the code tests for 13: a book whose blocks have their numbers and checks is what writing its content gives exactly where every spare byte is zero;
+-- and the spare bytes of a block are one run.
 -- Assumes nothing.
 use Prim.Native.Nat.{ℕ, zero, suc, _+_, _-_, _*_, _/_, _%_, _≤_, _<_}
 use mathlib.Core.Path.{_≡_, refl, sym, ap, _∙_}
-use mathlib.Core.Logic.{_⊎_, inl, inr, ⊎-elim}
+use mathlib.Core.Logic.{⊎-elim}
 use mathlib.Core.Bool.{Bool, true, false, cond, not, _&&_}
 use mathlib.Core.List.{List, [], _∷_}
 use native.Mathlib.Omega.{arith}
-use native.Mathlib.Nat.{zero-add, mul-comm, lt-of-not-le, div-one}
-use native.Mathlib.Decide.{decLe}
+use native.Mathlib.Nat.{zero-add, mul-comm, div-one}
+use native.Mathlib.Numerals.{add-one}
 use lib.Arith.{digits-div, digits-mod}
 use lib.Dec.{ltb, leb, eqb}
 use lib.ListN.{length, getD, List·getD-eq-default}
-use borrow.Author.Tests.{eqb-true, eq-eqb, lt-ltb, ltb-true, le-ltb, le-leb, leb-true, lt-leb}
-use Rattle.rows.specs.BoolLaws.{either, not-both, and-left, and-right}
+use borrow.Author.Tests.{eqb-true, eq-eqb, lt-ltb, le-ltb, le-leb, lt-leb}
+use Rattle.rows.specs.BoolLaws.{either, not-both}
 use Rattle.rows.specs.Judge.{Check, check, checkAt}
 use Rattle.rows.specs.Numbers.{row-range, short-output, book-field}
 use Rattle.rows.specs.Sets.{word}
-use Rattle.book.specs.Bytes.{byte, big, little, checkOf}
-use Rattle.book.specs.ByteLaws.{run-length, run-at, all-at, all-make, check-ext, check-fits, byte-little, byte-big, byte-low, byte-high, byte-none, little-lt}
+use Rattle.book.specs.Bytes.{byte, big, little, checkOf, all}
+use Rattle.book.specs.ByteLaws.{run-length, run-at, all-at, all-make, all-from, zero-sum, side, check-ext, check-fits, byte-little, byte-big, byte-low, byte-high, byte-none, little-lt}
 use Rattle.book.specs.Fault.{faultOf}
 use Rattle.book.specs.Form.{formed}
 use Rattle.book.specs.Layout.{Edition, editionOne, longest, blocks, head, inner, opened, sealed, at}
 use Rattle.book.specs.LayoutLaws.{Fit, one-fits, at-inner, head-order, head-group, head-more}
 use Rattle.book.specs.Read.{ofBlock, place, wordAt, groupOf, verdictOf, content, numbered, checked, spelled, fieldsCheck, lowestBad, bodyChecks}
 use Rattle.book.specs.ReadLaws.{Sealed, Headed, content-count}
-use Rattle.book.specs.Spare.{spare, zeroAt, zeros}
-
-side : (a b : ℕ) → (a ≤ b) ⊎ (b < a)
-side a b = go (decLe a b)
-  where
-    go : Dec (a ≤ b) → (a ≤ b) ⊎ (b < a)
-    go (yes l) = inl l
-    go (no m) = inr (lt-of-not-le m)
-
-pub not-ltb : (a b : ℕ) → leb b a ≡ not (ltb a b)
-not-ltb a b = ⊎-elim (λ (h : b ≤ a). rw (le-leb b a h, le-ltb a b h) refl) (λ (h : a < b). rw (lt-leb b a h, lt-ltb a b h) refl) (side b a)
+use Rattle.book.specs.Spare.{spare, zeroAt, zeroBlock, zeros, blank}
 
 module _ (e : Edition) (f : Fit e) (b : List ℕ) (bytes : (i : ℕ) → getD b i 0 < 256) (edition : getD b 2 0 ≡ e .number) where
   -- what is written behind the number of a block is what was read, and zero where nothing is read
@@ -194,35 +185,22 @@ module _ (e : Edition) (f : Fit e) (b : List ℕ) (bytes : (i : ℕ) → getD b 
         ∙ at-inner e y k q m ∙ kept k q ∙ rw s refl
 
     zero-at : zeros e (getD b 4 0) b ≡ true → (k q : ℕ) → k < N → q < 508 → spare e (getD b 4 0) k q ≡ true → ofBlock b k (2 + q) ≡ 0
-    unfolding zeros zeroAt
+    unfolding zeros zeroBlock
     zero-at h k q l m s =
-        let i = 512 * k + (2 + q) in
-        let d : i / 512 ≡ k = omega arith in
-        let r : i % 512 ≡ 2 + q = omega arith in
-        let t : 2 + q - 2 ≡ q = omega arith in
-        let z = all-at (length b) (zeroAt e (getD b 4 0) b) h i (omega arith) in
-        eqb-true (getD b i 0) 0 (rw (d, r, t, s, le-leb 2 (2 + q) (omega arith), lt-ltb (2 + q) 510 (omega arith)) at z)
+        let n = getD b 4 0 in
+        let block = all-at (length b / 512) (λ k. zeroBlock e n b k) h k (omega arith) in
+        eqb-true (ofBlock b k (2 + q)) 0 (rw s at (all-at 508 (zeroAt e n b k) block q m))
 
     zero-make : ((k q : ℕ) → k < N → q < 508 → spare e (getD b 4 0) k q ≡ true → ofBlock b k (2 + q) ≡ 0) → zeros e (getD b 4 0) b ≡ true
-    unfolding zeros zeroAt
-    zero-make H = all-make (length b) (zeroAt e (getD b 4 0) b) each
-      where
-        test : ℕ → Bool
-        test i = leb 2 (i % 512) && ltb (i % 512) 510 && spare e (getD b 4 0) (i / 512) (i % 512 - 2)
-
-        each : (i : ℕ) → i < length b → zeroAt e (getD b 4 0) b i ≡ true
-        each i l =
-            ⊎-elim
-            (λ (t : test i ≡ true).
-            let a = and-left (leb 2 (i % 512) && ltb (i % 512) 510) _ t in
-            let p : 2 ≤ i % 512 = leb-true 2 (i % 512) (and-left (leb 2 (i % 512)) (ltb (i % 512) 510) a) in
-            let q : i % 512 < 510 = ltb-true (i % 512) 510 (and-right (leb 2 (i % 512)) (ltb (i % 512) 510) a) in
-            let s = and-right (leb 2 (i % 512) && ltb (i % 512) 510) (spare e (getD b 4 0) (i / 512) (i % 512 - 2)) t in
-            let x : 512 * (i / 512) + (2 + (i % 512 - 2)) ≡ i = omega arith in
-            rw t (eq-eqb (getD b i 0) 0
-            (ap (λ (j : ℕ). getD b j 0) (sym x) ∙ H (i / 512) (i % 512 - 2) (omega arith) (omega arith) s)))
-            (λ (t : test i ≡ false). rw t refl)
-            (either (test i))
+    unfolding zeros zeroBlock
+    zero-make H =
+        let n = getD b 4 0 in
+        all-make (length b / 512) (λ k. zeroBlock e n b k)
+        (λ k l.
+        all-make 508 (zeroAt e n b k)
+        (λ q m.
+        ⊎-elim (λ (s : spare e n k q ≡ true). rw s (eq-eqb (ofBlock b k (2 + q)) 0 (H k q (omega arith) m s))) (λ (s : spare e n k q ≡ false). rw s refl)
+        (either (spare e n k q))))
 
     -- what code tests for 13 besides the form: where the blocks' numbers and checks are right, the spare bytes alone
     pub spelled-zeros : ((k : ℕ) → k < N → (numbered b k ≡ true) × (checked b k ≡ true)) → spelled e (content e b) b ≡ zeros e (getD b 4 0) b
@@ -235,6 +213,53 @@ module _ (e : Edition) (f : Fit e) (b : List ℕ) (bytes : (i : ℕ) → getD b 
         (λ (t : spelled e (content e b) b ≡ false). t ∙ sym z)
         (either (spelled e (content e b) b)))
         (either (zeros e (getD b 4 0) b))
+
+-- ---- bytes that are zero by their sum
+
+pub blank-none : (b : List ℕ) (from : ℕ) → eqb 0 0 ≡ blank b from 0
+unfolding blank
+blank-none b from = refl
+
+pub blank-more : (b : List ℕ) (from t sum : ℕ) → eqb sum 0 ≡ blank b from t → eqb (sum + getD b (from + t) 0) 0 ≡ blank b from (t + 1)
+unfolding blank
+blank-more b from t sum h = rw (add-one t, ← h) (zero-sum sum (getD b (from + t) 0))
+
+-- ---- the spare bytes of a block as a run
+
+-- block 0: what stands behind the group
+pub head-blank : (n : ℕ) (b : List ℕ) → zeroBlock editionOne n b 0 ≡ blank b 114 396
+unfolding zeroBlock blank spare
+head-blank n b =
+    all-from 112 396 (zeroAt editionOne n b 0) (λ t. eqb (getD b (114 + t) 0) 0) (λ q l. rw (lt-leb 112 q l) refl)
+    (λ t l.
+    let e : 512 * 0 + (2 + (112 + t)) ≡ 114 + t = omega arith in
+    rw (le-leb 112 (112 + t) (omega arith), e) refl)
+
+-- a row block: what stands behind its words
+module _ (n k count : ℕ) (few : count ≤ 126) (most : 126 * k + count ≤ 3 * n) (last : (j : ℕ) → count ≤ j → j < 126 → 3 * n ≤ 126 * k + j) where
+  word-kept : (q : ℕ) → q < 4 * count → spare editionOne n (suc k) q ≡ false
+  unfolding spare
+  word-kept q l = rw (lt-ltb q 504 (omega arith), lt-ltb (126 * k + q / 4) (3 * n) (omega arith)) refl
+
+  rest-spare : (q : ℕ) → 4 * count ≤ q → spare editionOne n (suc k) q ≡ true
+  unfolding spare
+  rest-spare q l =
+      ⊎-elim
+      (λ (h : 504 ≤ q). rw (le-ltb q 504 h) refl)
+      (λ (h : q < 504). rw (lt-ltb q 504 h, le-ltb (126 * k + q / 4) (3 * n) (last (q / 4) (omega arith) (omega arith))) refl)
+      (side 504 q)
+
+  pub rows-blank : (b : List ℕ) → zeroBlock editionOne n b (suc k) ≡ blank b (512 * (k + 1) + 2 + 4 * count) (508 - 4 * count)
+  unfolding zeroBlock blank
+  rows-blank b =
+      let p : ℕ → Bool = zeroAt editionOne n b (suc k) in
+      let from : ℕ = 512 * (k + 1) + 2 + 4 * count in
+      let whole : 508 ≡ 4 * count + (508 - 4 * count) = omega arith in
+      ap (λ (c : ℕ). all c p) whole
+      ∙ all-from (4 * count) (508 - 4 * count) p (λ t. eqb (getD b (from + t) 0) 0) (λ q l. rw (word-kept q l) refl)
+      (λ t l.
+      let e : 512 * suc k + (2 + (4 * count + t)) ≡ from + t = omega arith in
+      rw (rest-spare (4 * count + t) (omega arith), e) refl)
 
 -- ---- 13, and the checks of the body
 

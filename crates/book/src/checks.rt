@@ -5,10 +5,10 @@ ghost use Prim.Native.Nat.{_+_, _*_, _≤_, _<_};
 ghost use lib.ListN.{length};
 ghost use Rattle.rows.specs.Table.{readAt};
 ghost use Rattle.book.specs.Form.{formed as formedOf};
-ghost use Rattle.book.specs.Layout.{editionOne};
+ghost use Rattle.book.specs.Layout.{editionOne, blocks};
 ghost use Rattle.book.specs.Read.{whole as wholeOf, numbered as numberedAt, checked as checkedAt, content, verdictOf, lowestBad, blockChecks, headChecks, bodyChecks, readChecks};
 ghost use Rattle.book.specs.Fault.{faultOf};
-ghost use Rattle.book.specs.Spare.{spare as spareAt, zeroAt, zeros};
+ghost use Rattle.book.specs.Spare.{zeroBlock, zeros, blank as blankOf};
 ghost use Rattle.book.specs.ReadLaws.{Sealed, Headed};
 use crate::bytes;
 use crate::fields;
@@ -94,49 +94,43 @@ fn head_fault(book: &[u8]) -> Fault
     Fault::Clear
 }
 
-// Byte q behind the number of block k is no field of a book of n rows.
-fn spare(n: usize, k: usize, q: usize) -> bool
-    requires { ⌜ (n ≤ 96) × (k < 5) ⌝ }
-    ensures { λ r. ⌜ r ≡ spareAt editionOne n k q ⌝ }
+// So many bytes from `from` on are zero.
+fn blank(book: &[u8], from: usize, count: usize) -> bool
+    requires { ⌜ (count ≤ 512) × (from + count ≤ length (now book)) ⌝ }
+    ensures { λ r. ⌜ r ≡ blankOf (now (book .entry)) from count ⌝ }
 {
-    if k == 0 {
-        return 112 <= q;
+    let mut sum: u32 = 0;
+    let mut t: usize = 0;
+    while t < count {
+        sum += bytes::wide(book[from + t]);
+        t += 1;
     }
-    if q < 504 {
-        return 3 * n <= 126 * (k - 1) + q / 4;
-    }
-    true
+    sum == 0
 }
 
-// Byte i is zero where it is spare.
-fn zero_at(book: &[u8], n: usize, i: usize) -> bool
-    requires { ⌜ (n ≤ 96) × (i < 2560) × (i < length (now book)) ⌝ }
-    ensures { λ r. ⌜ r ≡ zeroAt editionOne n (now (book .entry)) i ⌝ }
+// Row block k of a book of n rows is zero behind its words.
+fn rows_blank(book: &[u8], n: usize, k: usize) -> bool
+    requires { ⌜ (n ≤ 96) × (k < 4) × (126 * k ≤ 3 * n) × (512 * (k + 1) + 512 ≤ length (now book)) ⌝ }
+    ensures { λ r. ⌜ r ≡ zeroBlock editionOne n (now (book .entry)) (k + 1) ⌝ }
 {
-    let p = i % 512;
-    if p < 2 {
-        return true;
-    }
-    if 510 <= p {
-        return true;
-    }
-    if spare(n, i / 512, p - 2) {
-        return book[i] == 0;
-    }
-    true
+    let count = layout::words_in(3 * n, k);
+    blank(book, 512 * (k + 1) + 2 + 4 * count, 508 - 4 * count)
 }
 
 // Every spare byte is zero.
 fn all_zero(book: &[u8], n: usize) -> bool
-    requires { ⌜ (n ≤ 96) × (length (now book) ≤ 2560) ⌝ }
+    requires { ⌜ (n ≤ 96) × (length (now book) ≡ 512 * blocks editionOne n) ⌝ }
     ensures { λ r. ⌜ r ≡ zeros editionOne n (now (book .entry)) ⌝ }
 {
-    let mut i: usize = 0;
-    while i < book.len() {
-        if !zero_at(book, n, i) {
+    if !blank(book, 114, 396) {
+        return false;
+    }
+    let mut k: usize = 0;
+    while k < layout::row_blocks(n) {
+        if !rows_blank(book, n, k) {
             return false;
         }
-        i += 1;
+        k += 1;
     }
     true
 }
@@ -146,11 +140,7 @@ fn row_in(book: &[u8], n: usize, i: usize) -> RowRead
     requires { ⌜ (i < n) × Headed (now book) n ⌝ }
     ensures { λ r. ⌜ r ≡ readAt (content editionOne (now (book .entry)) .table) i ⌝ }
 {
-    let words = [
-        fields::word_at(book, 3 * i),
-        fields::word_at(book, 3 * i + 1),
-        fields::word_at(book, 3 * i + 2),
-    ];
+    let words = fields::row_words(book, i);
     rows::read_row(&words, 0)
 }
 
@@ -171,7 +161,7 @@ fn lowest_bad(book: &[u8], n: usize) -> usize
 
 // The verdict has its form, and every spare byte is zero.
 fn fields_fit(book: &[u8], n: usize) -> bool
-    requires { ⌜ (n ≤ 96) × (512 ≤ length (now book)) × (length (now book) ≤ 2560) ⌝ }
+    requires { ⌜ (n ≤ 96) × (length (now book) ≡ 512 * blocks editionOne n) ⌝ }
     ensures { λ r. ⌜ r ≡ formedOf n (verdictOf (now (book .entry))) && zeros editionOne n (now (book .entry)) ⌝ }
 {
     if !verdicts::formed(n, fields::verdict_at(book)) {

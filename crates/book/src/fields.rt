@@ -9,12 +9,17 @@ use crate::bytes;
 use crate::verdicts::Verdict;
 use rows::Set;
 
-// Word j of the table.
-pub(crate) fn word_at(book: &[u8], j: usize) -> u32
-    requires { ⌜ (j < 288) × (512 * (2 + j / 126) ≤ length (now book)) ⌝ }
-    ensures { λ r. ⌜ r ≡ wordAt editionOne (now (book .entry)) j ⌝ }
+// The three words of row i of the table, which stand in one block.
+pub(crate) fn row_words(book: &[u8], i: usize) -> [u32; 3]
+    requires { ⌜ (i < 96) × (512 * (2 + i / 42) ≤ length (now book)) ⌝ }
+    ensures { λ r. ⌜ r ≡ run (3 * i) 3 (wordAt editionOne (now (book .entry))) ⌝ }
 {
-    bytes::read_u32(book, 512 * (1 + j / 126) + 2 + 4 * (j % 126))
+    let at = 512 * (1 + i / 42) + 2 + 12 * (i % 42);
+    [
+        bytes::read_u32(book, at),
+        bytes::read_u32(book, at + 4),
+        bytes::read_u32(book, at + 8),
+    ]
 }
 
 fn order_at(book: &[u8]) -> [u8; 96]

@@ -4,6 +4,7 @@ mod checks;
 mod fields;
 mod layout;
 mod reading;
+mod storing;
 mod verdicts;
 mod writing;
 

@@ -56,10 +56,13 @@ fn store_words(book: &[u8], n: usize, words: &mut [u32])
     requires { ⌜ Headed (now book) n × (3 * n ≤ length (now words)) ⌝ }
     ensures { λ _. ⌜ now (words .exit) ≡ content editionOne (now (book .entry)) .table ++ drop (3 * n) (now (words .entry)) ⌝ }
 {
-    let mut j: usize = 0;
-    while j < 3 * n {
-        words[j] = fields::word_at(book, j);
-        j += 1;
+    let mut i: usize = 0;
+    while i < n {
+        let row = fields::row_words(book, i);
+        words[3 * i] = row[0];
+        words[3 * i + 1] = row[1];
+        words[3 * i + 2] = row[2];
+        i += 1;
     }
 }
 

@@ -1,10 +1,12 @@
 // A verdict and its form.
 ghost use mathlib.Core.Path.{_≡_};
-ghost use mathlib.Core.Bool.{cond, not, _&&_};
-ghost use Prim.Native.Nat.{_≤_};
-ghost use lib.Dec.{ltb, eqb};
+ghost use mathlib.Core.Bool.{not, _&&_};
+ghost use Prim.Native.Nat.{_-_, _≤_};
+ghost use lib.Dec.{ltb};
 ghost use Rattle.rows.specs.Sets.{has};
 ghost use Rattle.book.specs.Form.{orderFits, groupFits, formed as formedOf};
+ghost use Rattle.book.specs.Parts.{free};
+use crate::bytes;
 use rows::Set;
 
 // Kind 0 none, 1 order, 2 blocked; the order and the group as they stand in block 0.
@@ -14,15 +16,25 @@ pub struct Verdict {
     pub group: Set,
 }
 
-// Entry i of an order of p rows: a row below p that was not seen before, and 255 behind them.
-fn entry_fits(seen: Set, row: usize, i: usize, p: usize) -> bool
-    ensures { λ r. ⌜ r ≡ cond (ltb i p) (ltb row p && not (has seen row)) (eqb row 255) ⌝ }
+// A row below p that was not seen before.
+fn row_fits(seen: Set, row: usize, p: usize) -> bool
+    ensures { λ r. ⌜ r ≡ ltb row p && not (has seen row) ⌝ }
 {
-    if i < p {
-        if row < p { !seen.has(row) } else { false }
-    } else {
-        row == 255
+    if row < p { !seen.has(row) } else { false }
+}
+
+// The entries from p on are 255.
+fn rest_free(order: [u8; 96], p: usize) -> bool
+    requires { ⌜ p ≤ 96 ⌝ }
+    ensures { λ r. ⌜ r ≡ free p order (96 - p) ⌝ }
+{
+    let mut lack: u32 = 0;
+    let mut t: usize = 0;
+    while t < 96 - p {
+        lack += 255 - bytes::wide(order[p + t]);
+        t += 1;
     }
+    lack == 0
 }
 
 // A permutation of the p rows in the first p entries, all else 255.
@@ -32,15 +44,15 @@ fn order_fits(order: [u8; 96], p: usize) -> bool
 {
     let mut seen = Set { low: 0, high: 0 };
     let mut i: usize = 0;
-    while i < 96 {
+    while i < p {
         let row = order[i] as usize;
-        if !entry_fits(seen, row, i, p) {
+        if !row_fits(seen, row, p) {
             return false;
         }
         seen = seen.with(row);
         i += 1;
     }
-    true
+    rest_free(order, p)
 }
 
 // Nonempty and below row n for verdict 2, else empty.

@@ -8,6 +8,7 @@ ghost use Rattle.book.specs.Heads.{said};
 ghost use Rattle.book.specs.Write.{writeOf, writeInto};
 use crate::layout;
 use crate::layout::Head;
+use crate::storing;
 use crate::verdicts;
 use crate::verdicts::Verdict;
 use rows::numbers;
@@ -20,15 +21,14 @@ pub struct BookWritten {
 
 // The book of a head and a table at the start of `out`. Later bytes stay.
 fn store_book(head: Head, words: &[u32], out: &mut [u8])
-    requires { ⌜ (head .n ≤ 96) × (512 * blocks editionOne (head .n) ≤ length (now out)) ⌝ }
+    requires { ⌜ (head .n ≤ 96) × (3 * head .n ≤ length (now words)) × (512 * blocks editionOne (head .n) ≤ length (now out)) ⌝ }
     ensures { λ _. ⌜ now (out .exit) ≡ bookOf editionOne (said head (now (words .entry))) ++ drop (512 * blocks editionOne (head .n)) (now (out .entry)) ⌝ }
 {
-    let size = layout::size(head.n as usize);
-    let mut i: usize = 0;
-    while i < size {
-        let byte = layout::book_byte(head, words, out, i);
-        out[i] = byte;
-        i += 1;
+    storing::store_head(out, head);
+    let mut k: usize = 0;
+    while k < layout::row_blocks(head.n as usize) {
+        storing::store_rows(out, words, k);
+        k += 1;
     }
 }
 

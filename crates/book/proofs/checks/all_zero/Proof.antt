@@ -1,56 +1,76 @@
--- The loop's invariant: every byte before i is zero where it is spare.
--- One that is not ends the loop, and the definition fails there. Assumes nothing.
-use Prim.Native.Nat.{_-_, _≤_}
-use mathlib.Core.Path.{_≡_, refl, sym, _∙_}
+-- The loop's invariant: the spare bytes of block 0 and of the first k row blocks are zero.
+-- A block where one is not ends the loop, and the definition fails there. Assumes nothing.
+use Prim.Native.Nat.{_+_, _-_, _/_, _≤_}
+use mathlib.Core.Path.{_≡_, sym, _∙_}
 use mathlib.Core.Bool.{true}
 use native.Mathlib.Omega.{arith}
 use borrow.Author.Tests.{not-true, not-false}
 use lib.ListN.{length}
 use Rattle.book.specs.Bytes.{all}
 use Rattle.book.specs.ByteLaws.{all-fails, all-more}
-use Rattle.book.specs.Layout.{editionOne}
-use Rattle.book.specs.Spare.{zeroAt, zeros}
+use Rattle.book.specs.Layout.{editionOne, blocks}
+use Rattle.book.specs.Spare.{zeroBlock, zeros}
+use Rattle.book.specs.SpareLaws.{head-blank}
 use borrow.Author.Needs.{needs}
 use Rattle.book.proofs.checks.all_zero.Statement.{statement}
 use Rattle.book.proofs.checks.all_zero.Tie as tie
 
 abbrev Inv-loop : tie.InvT-loop
-Inv-loop book n i₀ i = (i ≤ length book) × (all i (zeroAt editionOne n book) ≡ true)
+Inv-loop book n k₀ k = (1 + k ≤ blocks editionOne n) × (all (k + 1) (zeroBlock editionOne n book) ≡ true)
 
 abbrev μ-loop : tie.MeasureT-loop
-μ-loop book n i₀ i = length book - i
+μ-loop book n k₀ k = blocks editionOne n - k
 
-loop-holds : tie.Need-loop-holds Inv-loop μ-loop
-loop-holds c = (omega arith, refl)
-
-zero-at-requires : tie.Need-zero-at-requires Inv-loop μ-loop
-zero-at-requires c κs = search needs
+blank-requires : tie.Need-blank-requires Inv-loop μ-loop
+blank-requires c κs = search needs
 
 returns : tie.Need-returns Inv-loop μ-loop
 unfolding zeros
 returns c =
-    let a = c .before .before .before .before .before .args in
-    let l = c .before .before .before .loop in
-    sym (all-fails (length (a .book .now)) (zeroAt editionOne (a .n) (a .book .now)) (l .i) (omega arith) (sym (c .before .zero-at .ensures) ∙ not-true _ (c .if1 .taken)))
+    let s = c .before .before .before in
+    let bad = head-blank (s .args .n) (s .args .book .now) ∙ sym (c .before .blank .ensures) ∙ not-true _ (c .if1 .taken) in
+    sym (all-fails (length (s .args .book .now) / 512) (zeroBlock editionOne (s .args .n) (s .args .book .now)) 0 (omega (arith, s .pre .1)) bad)
 
-add-i : tie.Need-add-i Inv-loop μ-loop
-add-i c = search needs
+loop-holds : tie.Need-loop-holds Inv-loop μ-loop
+loop-holds c =
+    let a = c .before .before .before .args in
+    (omega arith, head-blank (a .n) (a .book .now) ∙ sym (c .before .blank .ensures) ∙ not-false _ (c .if1 .left))
+
+row-blocks-requires : tie.Need-row-blocks-requires Inv-loop μ-loop
+row-blocks-requires c κs = search needs
+
+rows-blank-requires : tie.Need-rows-blank-requires Inv-loop μ-loop
+rows-blank-requires c κs = search needs
+
+returns-2 : tie.Need-returns-2 Inv-loop μ-loop
+unfolding zeros
+returns-2 c =
+    let s = c .before .before .before .before .before .before .before .before in
+    let l = c .before .before .before .before .loop in
+    let bad = sym (c .before .rows-blank .ensures) ∙ not-true _ (c .if3 .taken) in
+    sym
+    (all-fails (length (s .args .book .now) / 512) (zeroBlock editionOne (s .args .n) (s .args .book .now)) (l .k + 1)
+    (omega (arith, s .pre .1, c .before .before .before .row-blocks .ensures)) bad)
+
+add-k : tie.Need-add-k Inv-loop μ-loop
+add-k c = search needs
 
 loop-less : tie.Need-loop-less Inv-loop μ-loop
 loop-less c = search needs
 
 loop-again : tie.Need-loop-again Inv-loop μ-loop
 loop-again c =
-    let a = c .before .before .before .before .before .args in
-    let l = c .before .before .before .loop in
-    (omega arith, all-more (l .i) (zeroAt editionOne (a .n) (a .book .now)) (l .inv .1) (sym (c .before .zero-at .ensures) ∙ not-false _ (c .if1 .left)))
+    let a = c .before .before .before .before .before .before .before .before .args in
+    let l = c .before .before .before .before .loop in
+    let good = sym (c .before .rows-blank .ensures) ∙ not-false _ (c .if3 .left) in
+    (omega (arith, c .before .before .before .row-blocks .ensures), all-more (l .k + 1) (zeroBlock editionOne (a .n) (a .book .now)) (l .inv .1) good)
 
-returns-2 : tie.Need-returns-2 Inv-loop μ-loop
+returns-3 : tie.Need-returns-3 Inv-loop μ-loop
 unfolding zeros
-returns-2 c =
-    let a = c .before .before .before .args in
-    let l = c .before .loop in
-    let e : l .i ≡ length (a .book .now) = omega arith in
+returns-3 c =
+    let s = c .before .before .before .before .before .before in
+    let l = c .before .before .loop in
+    let e : l .k + 1 ≡ length (s .args .book .now) / 512 = omega (arith, s .pre .1, c .before .row-blocks .ensures) in
     sym (rw e at (l .inv .1))
 
 pub all-zero-spec : {M : Type 1} → statement M
@@ -59,10 +79,13 @@ all-zero-spec =
     (tie.spec
     Inv-loop
     μ-loop
-    loop-holds
-    zero-at-requires
+    blank-requires
     returns
-    add-i
+    loop-holds
+    row-blocks-requires
+    rows-blank-requires
+    returns-2
+    add-k
     loop-less
     loop-again
-    returns-2)
+    returns-3)

@@ -1,80 +1,119 @@
--- The loop's invariant: the first j words are the table's, and the others are as they were.
--- A turn stores the next. Assumes nothing.
-use Prim.Native.Nat.{ℕ, _*_, _-_, _≤_}
+-- The loop's invariant: the words of the first i rows are the table's, and the others are as they were.
+-- A turn stores the three words of the next row. Assumes nothing.
+use Prim.Native.Nat.{ℕ, _+_, _*_, _-_, _≤_, _<_}
 use mathlib.Core.Path.{_≡_, refl, sym, ap, _∙_}
-use mathlib.Core.List.{List, _++_}
+use mathlib.Core.List.{List}
 use native.Mathlib.Omega.{arith}
-use lib.ListN.{length, getD, drop}
+use native.Mathlib.Nat.{add-zero}
+use lib.ListN.{length, getD, set, length-set}
+use Rattle.book.specs.ByteLaws.{run-at}
 use Rattle.book.specs.Layout.{editionOne}
-use Rattle.book.specs.Read.{content}
-use Rattle.book.specs.ReadLaws.{Headed, table-at, headed-table}
-use Rattle.book.specs.OverLaws.{over, over-length, over-set, over-all}
+use Rattle.book.specs.Read.{wordAt, content}
+use Rattle.book.specs.ReadLaws.{table-at, headed-table}
+use Rattle.book.specs.OverLaws.{over, over-three, over-all}
 use borrow.Author.Needs.{needs}
 use Rattle.book.proofs.reading.store_words.Statement.{statement}
 use Rattle.book.proofs.reading.store_words.Tie as tie
 
 abbrev Inv-loop : tie.InvT-loop
-Inv-loop book n words₀ j₀ words j = (j ≤ 3 * n) × (words ≡ over (content editionOne book .table) words₀ j)
+Inv-loop book n words₀ i₀ words i = (i ≤ n) × (length words ≡ length words₀) × (words ≡ over (content editionOne book .table) words₀ (3 * i))
 
 abbrev μ-loop : tie.MeasureT-loop
-μ-loop book n words₀ j₀ words j = 3 * n - j
+μ-loop book n words₀ i₀ words i = n - i
 
 loop-holds : tie.Need-loop-holds Inv-loop μ-loop
-loop-holds c = (omega arith, refl)
+loop-holds c = (omega arith, refl, refl)
 
-mul-loop : tie.Need-mul-loop Inv-loop μ-loop
-mul-loop c = search needs
+row-words-requires : tie.Need-row-words-requires Inv-loop μ-loop
+row-words-requires c κs = search needs
 
-word-at-requires : tie.Need-word-at-requires Inv-loop μ-loop
-word-at-requires c κs = search needs
+array-read-words : tie.Need-array-read-words Inv-loop μ-loop
+array-read-words c = search needs
 
 mul-words : tie.Need-mul-words Inv-loop μ-loop
 mul-words c = search needs
 
--- the words stay as many
-len : (b : List ℕ) (n : ℕ) → Headed b n → (d w : List ℕ) (j : ℕ) → j ≤ 3 * n → 3 * n ≤ length d
-    → w ≡ over (content editionOne b .table) d j → length w ≡ length d
-len b n h d w j l f e =
-    let size = headed-table b n h in
-    ap length e ∙ over-length (content editionOne b .table) d j (omega (arith, size)) (omega (arith, size))
+mul-words-2 : tie.Need-mul-words-2 Inv-loop μ-loop
+mul-words-2 c = search needs
 
 slice-write-words : tie.Need-slice-write-words Inv-loop μ-loop
-slice-write-words c =
-    let d = c .before .before .before .before .before in
-    let l = c .before .before .loop in
-    omega (arith, len (d .args .book .now) (d .args .n) (d .pre .0) (d .args .words .now) (l .words) (l .j) (l .inv .0) (d .pre .1) (l .inv .1))
+slice-write-words c = search needs
 
-add-j : tie.Need-add-j Inv-loop μ-loop
-add-j c = search needs
+array-read-words-2 : tie.Need-array-read-words-2 Inv-loop μ-loop
+array-read-words-2 c = search needs
+
+mul-words-3 : tie.Need-mul-words-3 Inv-loop μ-loop
+mul-words-3 c = search needs
+
+add-words : tie.Need-add-words Inv-loop μ-loop
+add-words c = search needs
+
+mul-words-4 : tie.Need-mul-words-4 Inv-loop μ-loop
+mul-words-4 c = search needs
+
+slice-write-words-2 : tie.Need-slice-write-words-2 Inv-loop μ-loop
+slice-write-words-2 c =
+    let l = c .before .before .loop in
+    omega (arith, length-set (l .words) (3 * l .i) (getD (c .row-words .result) 0 0))
+
+array-read-words-3 : tie.Need-array-read-words-3 Inv-loop μ-loop
+array-read-words-3 c = search needs
+
+mul-words-5 : tie.Need-mul-words-5 Inv-loop μ-loop
+mul-words-5 c = search needs
+
+add-words-2 : tie.Need-add-words-2 Inv-loop μ-loop
+add-words-2 c = search needs
+
+mul-words-6 : tie.Need-mul-words-6 Inv-loop μ-loop
+mul-words-6 c = search needs
+
+slice-write-words-3 : tie.Need-slice-write-words-3 Inv-loop μ-loop
+slice-write-words-3 c =
+    let l = c .before .before .loop in
+    let one = set (l .words) (3 * l .i) (getD (c .row-words .result) 0 0) in
+    omega (arith, length-set (l .words) (3 * l .i) (getD (c .row-words .result) 0 0), length-set one (3 * l .i + 1) (getD (c .row-words .result) 1 0))
+
+add-i : tie.Need-add-i Inv-loop μ-loop
+add-i c = search needs
 
 loop-less : tie.Need-loop-less Inv-loop μ-loop
 loop-less c = search needs
 
 loop-again : tie.Need-loop-again Inv-loop μ-loop
 loop-again c =
-    let d = c .before .before .before .before .before in
-    let b = d .args .book .now in
+    let s = c .before .before .before .before .before in
+    let b = s .args .book .now in
     let t = content editionOne b .table in
     let l = c .before .before .loop in
-    let size = headed-table b (d .args .n) (d .pre .0) in
-    let count : d .args .n ≡ getD b 4 0 = d .pre .0 .count in
-    let v : c .word-at .result ≡ getD t (l .j) 0 = c .word-at .ensures ∙ sym (table-at editionOne b (l .j) (omega arith)) in
-    (omega arith, rw (l .inv .1, v) (over-set t (d .args .words .now) (l .j) (omega (arith, size)) (omega (arith, size))))
+    let k : ℕ = 3 * l .i in
+    let row = c .row-words .result in
+    let f : ℕ → ℕ = wordAt editionOne b in
+    let size = headed-table b (s .args .n) (s .pre .0) in
+    let count : s .args .n ≡ getD b 4 0 = s .pre .0 .count in
+    let one = set (l .words) k (getD row 0 0) in
+    let two = set one (k + 1) (getD row 1 0) in
+    let v : (j : ℕ) → j < 3 → getD row j 0 ≡ getD t (k + j) 0 =
+    λ j h. ap (λ (r : List ℕ). getD r j 0) (c .row-words .ensures) ∙ run-at k 3 f j h ∙ sym (table-at editionOne b (k + j) (omega arith))
+    in
+    let next : k + 3 ≡ 3 * (l .i + 1) = omega arith in (
+      omega arith,
+      length-set two (k + 2) (getD row 2 0) ∙ length-set one (k + 1) (getD row 1 0) ∙ length-set (l .words) k (getD row 0 0) ∙ l .inv .1,
+      rw (l .inv .2, v 0 (omega arith), v 1 (omega arith), v 2 (omega arith), add-zero k)
+          (over-three t (s .args .words .now) k (omega (arith, size)) (omega (arith, size)) ∙ ap (over t (s .args .words .now)) next),
+    )
 
 same-length : tie.Need-same-length Inv-loop μ-loop
-same-length c =
-    let d = c .before .before .before .before in
-    let l = c .before .loop in
-    len (d .args .book .now) (d .args .n) (d .pre .0) (d .args .words .now) (l .words) (l .j) (l .inv .0) (d .pre .1) (l .inv .1)
+same-length c = c .before .loop .inv .1
 
 returns : tie.Need-returns Inv-loop μ-loop
 returns c =
-    let d = c .before .before .before .before in
-    let t = content editionOne (d .args .book .now) .table in
+    let s = c .before .before .before .before in
     let l = c .before .loop in
-    let e : l .j ≡ 3 * d .args .n = omega arith in
-    l .inv .1 ∙ over-all t (d .args .words .now) (l .j) (e ∙ sym (headed-table (d .args .book .now) (d .args .n) (d .pre .0)))
-    ∙ ap (λ (k : ℕ). t ++ drop k (d .args .words .now)) e
+    let t = content editionOne (s .args .book .now) .table in
+    let e : l .i ≡ s .args .n = omega arith in
+    let size = headed-table (s .args .book .now) (s .args .n) (s .pre .0) in
+    l .inv .2 ∙ ap (λ (i : ℕ). over t (s .args .words .now) (3 * i)) e ∙ over-all t (s .args .words .now) (3 * s .args .n) (sym size)
 
 pub store-words-spec : {M : Type 1} → statement M
 store-words-spec =
@@ -83,11 +122,22 @@ store-words-spec =
     Inv-loop
     μ-loop
     loop-holds
-    mul-loop
-    word-at-requires
+    row-words-requires
+    array-read-words
     mul-words
+    mul-words-2
     slice-write-words
-    add-j
+    array-read-words-2
+    mul-words-3
+    add-words
+    mul-words-4
+    slice-write-words-2
+    array-read-words-3
+    mul-words-5
+    add-words-2
+    mul-words-6
+    slice-write-words-3
+    add-i
     loop-less
     loop-again
     same-length

@@ -1,5 +1,5 @@
 -- The loop's invariant: every entry before i fits, and the rows seen are those among the first i entries.
--- An entry that does not fit ends the loop, and the definition fails there. Assumes nothing.
+-- An entry that does not fit ends the loop, and the definition fails there; behind the p rows the others decide. Assumes nothing.
 use Prim.Native.Nat.{_-_, _≤_}
 use mathlib.Core.Path.{_≡_, refl, sym, _∙_}
 use mathlib.Core.Bool.{true}
@@ -9,16 +9,16 @@ use Rattle.rows.specs.Sets.{setOf}
 use Rattle.book.specs.Bytes.{all}
 use Rattle.book.specs.ByteLaws.{all-fails, all-more}
 use Rattle.book.specs.Form.{among, entryFits, orderFits}
-use Rattle.book.specs.FormLaws.{seen-none, seen-more, entry-seen}
+use Rattle.book.specs.FormLaws.{seen-none, seen-more, entry-seen, order-rest}
 use borrow.Author.Needs.{needs}
 use Rattle.book.proofs.verdicts.order_fits.Statement.{statement}
 use Rattle.book.proofs.verdicts.order_fits.Tie as tie
 
 abbrev Inv-loop : tie.InvT-loop
-Inv-loop p order seen₀ i₀ seen i = (i ≤ 96) × (all i (entryFits p order) ≡ true) × (seen ≡ setOf (among order i))
+Inv-loop p order seen₀ i₀ seen i = (i ≤ p) × (all i (entryFits p order) ≡ true) × (seen ≡ setOf (among order i))
 
 abbrev μ-loop : tie.MeasureT-loop
-μ-loop p order seen₀ i₀ seen i = 96 - i
+μ-loop p order seen₀ i₀ seen i = p - i
 
 loop-holds : tie.Need-loop-holds Inv-loop μ-loop
 loop-holds c = (omega arith, refl, seen-none (c .args .t1))
@@ -29,16 +29,16 @@ array-read-row c = search needs
 cast-row : tie.Need-cast-row Inv-loop μ-loop
 cast-row c = search needs
 
-entry-fits-requires : tie.Need-entry-fits-requires Inv-loop μ-loop
-entry-fits-requires c κs = search needs
+row-fits-requires : tie.Need-row-fits-requires Inv-loop μ-loop
+row-fits-requires c κs = search needs
 
 -- an entry fits by the rows seen as it fits by the definition
-entry : (c : tie.After-entry-fits Inv-loop μ-loop)
-    → c .entry-fits .result ≡ entryFits (c .before .before .before .args .p) (c .before .before .before .args .t1) (c .before .before .loop .i)
+entry : (c : tie.After-row-fits Inv-loop μ-loop)
+    → c .row-fits .result ≡ entryFits (c .before .before .before .args .p) (c .before .before .before .args .t1) (c .before .before .loop .i)
 entry c =
     let a = c .before .before .before .args in
     let l = c .before .before .loop in
-    c .entry-fits .ensures ∙ rw (l .inv .2) (entry-seen (a .t1) (a .p) (l .i) (omega arith))
+    c .row-fits .ensures ∙ rw (l .inv .2) (entry-seen (a .t1) (a .p) (l .i) (omega arith) (omega arith))
 
 returns : tie.Need-returns Inv-loop μ-loop
 unfolding orderFits
@@ -65,11 +65,15 @@ loop-again c =
       c .with .ensures ∙ rw (l .inv .2) (seen-more (a .t1) (l .i)),
     )
 
+rest-free-requires : tie.Need-rest-free-requires Inv-loop μ-loop
+rest-free-requires c κs = search needs
+
 returns-2 : tie.Need-returns-2 Inv-loop μ-loop
-unfolding orderFits
 returns-2 c =
-    let e : c .before .loop .i ≡ 96 = omega arith in
-    sym (rw e at (c .before .loop .inv .1))
+    let l = c .before .before .loop in
+    let a = c .before .before .before .args in
+    let e : l .i ≡ a .p = omega arith in
+    c .rest-free .ensures ∙ order-rest (a .p) (a .t1) (omega arith) (rw e at (l .inv .1))
 
 pub order-fits-spec : {M : Type 1} → statement M
 order-fits-spec =
@@ -80,10 +84,11 @@ order-fits-spec =
     loop-holds
     array-read-row
     cast-row
-    entry-fits-requires
+    row-fits-requires
     returns
     with-requires
     add-i
     loop-less
     loop-again
+    rest-free-requires
     returns-2)

@@ -1,91 +1,76 @@
--- The loop's invariant: the first i bytes are the book's, and the others are as they were.
--- A turn stores the next, whose check needs only those before it. Assumes nothing.
-use Prim.Native.Nat.{ℕ, _*_, _-_, _≤_}
-use mathlib.Core.Path.{_≡_, refl, sym, ap, _∙_}
-use mathlib.Core.List.{List, _++_}
+-- The loop's invariant: what block 0 and k row blocks leave is the book's first 512 (1 + k) bytes, over what was there.
+-- A turn stores the next row block, and the last one ends the book. Assumes nothing.
+use Prim.Native.Nat.{ℕ, _+_, _*_, _-_, _≤_}
+use mathlib.Core.Path.{_≡_, refl, ap, _∙_}
+use mathlib.Core.List.{List}
 use native.Mathlib.Omega.{arith}
-use lib.ListN.{length, getD, drop}
-use Rattle.book.specs.Layout.{editionOne, blocks, bookOf}
-use Rattle.book.specs.LayoutLaws.{book-length, book-at}
+use lib.ListN.{length}
+use Rattle.book.specs.BlockLaws.{book-begun, book-grown, book-ended}
 use Rattle.book.specs.Heads.{said}
-use Rattle.book.specs.OverLaws.{over, over-length, over-at, over-set, over-all}
-use Rattle.book.specs.declared.layout.Head.{Head}
+use Rattle.book.specs.Layout.{editionOne, blocks, sealed, at}
+use Rattle.book.specs.Parts.{stored}
+use Rattle.book.specs.PartsLaws.{stored-length}
 use borrow.Author.Needs.{needs}
 use Rattle.book.proofs.writing.store_book.Statement.{statement}
 use Rattle.book.proofs.writing.store_book.Tie as tie
 
 abbrev Inv-loop : tie.InvT-loop
-Inv-loop head words out₀ size i₀ out i = (size ≡ 512 * blocks editionOne (head .n)) × (i ≤ size) × (out ≡ over (bookOf editionOne (said head words)) out₀ i)
+Inv-loop head words out₀ k₀ out k =
+    let x = said head words in
+    (1 + k ≤ blocks editionOne (head .n))
+    × (length out ≡ length out₀)
+    × ((d : List ℕ) → out₀ ≡ stored 0 512 (sealed editionOne x 0) d → out ≡ stored 0 (512 * (1 + k)) (at editionOne x) d)
 
 abbrev μ-loop : tie.MeasureT-loop
-μ-loop head words out₀ size i₀ out i = size - i
+μ-loop head words out₀ k₀ out k = blocks editionOne (head .n) - k
 
-cast-size : tie.Need-cast-size Inv-loop μ-loop
-cast-size c = search needs
-
-size-requires : tie.Need-size-requires Inv-loop μ-loop
-size-requires c κs = search needs
-
--- the bytes stay as many
-len : (h : Head) (w d o : List ℕ) (i : ℕ) → o ≡ over (bookOf editionOne (said h w)) d i → i ≤ 512 * blocks editionOne (h .n)
-    → 512 * blocks editionOne (h .n) ≤ length d → length o ≡ length d
-len h w d o i e l f =
-    let size = book-length editionOne (said h w) in
-    ap length e ∙ over-length (bookOf editionOne (said h w)) d i (omega (arith, size)) (omega (arith, size))
+store-head-requires : tie.Need-store-head-requires Inv-loop μ-loop
+store-head-requires c κs = search needs
 
 loop-holds : tie.Need-loop-holds Inv-loop μ-loop
-loop-holds c = (c .size .ensures, omega arith, refl)
+loop-holds c = (omega arith, refl, λ d h. book-begun editionOne _ d _ h)
 
-book-byte-requires : tie.Need-book-byte-requires Inv-loop μ-loop
-book-byte-requires c κs =
-    let d = c .before .before .before .before .before .before .before in
-    let l = c .before .before .loop in
-    let x = said (d .args .head) (d .args .words .now) in
-    let size = book-length editionOne x in
-    let same = len (d .args .head) (d .args .words .now) (d .args .out .now) (l .out) (l .i) (l .inv .2) (omega arith) (d .pre .1) in (
-      omega arith,
-      omega (arith, same),
-      λ j h.
-          ap (λ (o : List ℕ). getD o j 0) (l .inv .2)
-          ∙ over-at (bookOf editionOne x) (d .args .out .now) (l .i) (omega (arith, size)) j h (omega (arith, size))
-          ∙ book-at editionOne x j (omega arith),
-    )
+cast-row-blocks : tie.Need-cast-row-blocks Inv-loop μ-loop
+cast-row-blocks c = search needs
 
-slice-write-out : tie.Need-slice-write-out Inv-loop μ-loop
-slice-write-out c =
-    let d = c .before .before .before .before .before .before .before .before in
-    let l = c .before .before .before .loop in
-    omega (arith, len (d .args .head) (d .args .words .now) (d .args .out .now) (l .out) (l .i) (l .inv .2) (omega arith) (d .pre .1))
+row-blocks-requires : tie.Need-row-blocks-requires Inv-loop μ-loop
+row-blocks-requires c κs = search needs
 
-add-i : tie.Need-add-i Inv-loop μ-loop
-add-i c = search needs
+store-rows-requires : tie.Need-store-rows-requires Inv-loop μ-loop
+store-rows-requires c κs = search needs
+
+add-k : tie.Need-add-k Inv-loop μ-loop
+add-k c = search needs
 
 loop-less : tie.Need-loop-less Inv-loop μ-loop
 loop-less c = search needs
 
 loop-again : tie.Need-loop-again Inv-loop μ-loop
 loop-again c =
-    let d = c .before .before .before .before .before .before .before .before in
-    let l = c .before .before .before .loop in
-    let x = said (d .args .head) (d .args .words .now) in
-    let size = book-length editionOne x in
-    let v : c .book-byte .result ≡ getD (bookOf editionOne x) (l .i) 0 = c .book-byte .ensures ∙ sym (book-at editionOne x (l .i) (omega arith)) in
-    (l .inv .0, omega arith, rw (l .inv .2, v) (over-set (bookOf editionOne x) (d .args .out .now) (l .i) (omega (arith, size)) (omega (arith, size))))
+    let l = c .before .before .before .before .before .before .before .loop in
+    let a = c .before .before .before .before .before .before .before .before .before .before .before .before .before .before .args in
+    let x = said (a .head) (a .words .now) in
+    let block = c .before .before .store-rows .ensures (a .head) in (
+      omega (arith, c .before .before .before .before .before .row-blocks .ensures),
+      ap length block ∙ stored-length (512 * (l .k + 1)) 512 (sealed editionOne x (l .k + 1)) (l .out) ∙ l .inv .1,
+      λ d h. book-grown editionOne x d (l .k) _ _ (l .inv .2 d h) block,
+    )
 
 same-length : tie.Need-same-length Inv-loop μ-loop
 same-length c =
-    let d = c .before .before .before .before .before .before in
-    let l = c .before .loop in
-    len (d .args .head) (d .args .words .now) (d .args .out .now) (l .out) (l .i) (l .inv .2) (omega arith) (d .pre .1)
+    let a = c .before .before .before .before .before .before .before .before .before .before .args in
+    let x = said (a .head) (a .words .now) in
+    c .before .before .before .loop .inv .1 ∙ ap length (c .before .before .before .before .before .before .store-head .ensures (a .words .now)) ∙ stored-length 0 512 (sealed editionOne x 0) (a .out .now)
 
 returns : tie.Need-returns Inv-loop μ-loop
 returns c =
-    let d = c .before .before .before .before .before .before in
-    let l = c .before .loop in
-    let x = said (d .args .head) (d .args .words .now) in
-    let e : l .i ≡ 512 * blocks editionOne (d .args .head .n) = omega arith in
-    l .inv .2 ∙ over-all (bookOf editionOne x) (d .args .out .now) (l .i) (e ∙ sym (book-length editionOne x))
-    ∙ ap (λ (k : ℕ). bookOf editionOne x ++ drop k (d .args .out .now)) e
+    let l = c .before .before .before .loop in
+    let s = c .before .before .before .before .before .before .before .before .before .before in
+    let a = s .args in
+    let x = said (a .head) (a .words .now) in
+    let e : 1 + l .k ≡ blocks editionOne (a .head .n) = omega (arith, c .before .row-blocks .ensures) in
+    l .inv .2 (a .out .now) (c .before .before .before .before .before .before .store-head .ensures (a .words .now))
+    ∙ ap (λ (n : ℕ). stored 0 (512 * n) (at editionOne x) (a .out .now)) e ∙ book-ended editionOne x (a .out .now) (s .pre .2)
 
 pub store-book-spec : {M : Type 1} → statement M
 store-book-spec =
@@ -93,12 +78,12 @@ store-book-spec =
     (tie.spec
     Inv-loop
     μ-loop
-    cast-size
-    size-requires
+    store-head-requires
     loop-holds
-    book-byte-requires
-    slice-write-out
-    add-i
+    cast-row-blocks
+    row-blocks-requires
+    store-rows-requires
+    add-k
     loop-less
     loop-again
     same-length

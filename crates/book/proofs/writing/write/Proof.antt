@@ -90,7 +90,11 @@ cast-t16 c = omega (arith, formed-kind _ _ (right (c .before .before .before .be
 store-book-requires : tie.Need-store-book-requires
 store-book-requires c κs =
     let room = c .before .before .before .before in
-    (count (room .before .before .before .before), rw (room .before .size .ensures) at (room .if3 .left))
+    let table = passed-valid _ _ (fair (room .before .before .before .before .before)) in (
+      count (room .before .before .before .before),
+      omega (arith, table .whole, room .before .before .before .before .row-count .ensures),
+      rw (room .before .size .ensures) at (room .if3 .left),
+    )
 
 same-length : tie.Need-same-length
 same-length c = search needs

@@ -1,0 +1,67 @@
+-- The check is computed before it is stored, from the bytes lent.
+-- Its two bytes are stored one after the other, as the definition stores them. Assumes nothing.
+use Prim.Native.Nat.{_+_}
+use mathlib.Core.Path.{_≡_, refl}
+use native.Mathlib.Omega.{arith}
+use native.Mathlib.Nat.{add-zero}
+use lib.ListN.{length-set}
+use Rattle.book.specs.Bytes.{checkOf}
+use Rattle.book.specs.Parts.{stored}
+use borrow.Author.Needs.{needs}
+use Rattle.book.proofs.storing.store_check.Statement.{statement}
+use Rattle.book.proofs.storing.store_check.Tie as tie
+
+block-sum-requires : tie.Need-block-sum-requires
+block-sum-requires c κs = search needs
+
+sub-check : tie.Need-sub-check
+sub-check c = search needs
+
+cast-check : tie.Need-cast-check
+cast-check c = search needs
+
+byte-of-requires : tie.Need-byte-of-requires
+byte-of-requires c κs = search needs
+
+add-out : tie.Need-add-out
+add-out c = search needs
+
+slice-write-out : tie.Need-slice-write-out
+slice-write-out c = search needs
+
+byte-of-requires-2 : tie.Need-byte-of-requires-2
+byte-of-requires-2 c κs = search needs
+
+add-out-2 : tie.Need-add-out-2
+add-out-2 c = search needs
+
+slice-write-out-2 : tie.Need-slice-write-out-2
+slice-write-out-2 c =
+    let a = c .before .before .before .before .before .args in
+    omega (arith, length-set (a .out .now) (a .at + 510) (c .before .byte-of .result))
+
+same-length : tie.Need-same-length
+same-length c = search needs
+
+returns : tie.Need-returns
+unfolding stored checkOf
+returns c =
+    let a = c .before .before .before .before .before .args in
+    let last : a .at + 510 + 1 ≡ a .at + 511 = omega arith in
+    rw (add-zero, last, c .before .byte-of .ensures, c .byte-of2 .ensures, c .before .before .block-sum .ensures .0) refl
+
+pub store-check-spec : {M : Type 1} → statement M
+store-check-spec =
+    tie.close
+    (tie.spec
+    block-sum-requires
+    sub-check
+    cast-check
+    byte-of-requires
+    add-out
+    slice-write-out
+    byte-of-requires-2
+    add-out-2
+    slice-write-out-2
+    same-length
+    returns)

@@ -1,0 +1,53 @@
+-- The fields of block 0 are stored one after the other behind the block's number, then zeros, then the check.
+-- So the block is the definition's, byte for byte. Assumes nothing.
+use mathlib.Core.Path.{_≡_, refl}
+use lib.ListN.{length}
+use Rattle.book.specs.BlockLaws.{block-made, head-made}
+use Rattle.book.specs.Heads.{said}
+use Rattle.book.specs.Layout.{editionOne}
+use borrow.Author.Needs.{needs}
+use Rattle.book.proofs.storing.store_head.Statement.{statement}
+use Rattle.book.proofs.storing.store_head.Tie as tie
+
+store-number-requires : tie.Need-store-number-requires
+store-number-requires c κs = search needs
+
+store-four-requires : tie.Need-store-four-requires
+store-four-requires c κs = search needs
+
+store-order-requires : tie.Need-store-order-requires
+store-order-requires c κs = search needs
+
+store-group-requires : tie.Need-store-group-requires
+store-group-requires c κs = search needs
+
+store-zeros-requires : tie.Need-store-zeros-requires
+store-zeros-requires c κs = search needs
+
+store-check-requires : tie.Need-store-check-requires
+store-check-requires c κs = search needs
+
+same-length : tie.Need-same-length
+same-length c = search needs
+
+returns : tie.Need-returns
+returns c =
+    λ words.
+    let s = c .before .before .before .before .before .before .before .before .before .before .before .before .before .before .before .before .before .before .before .before .before .before .before .before .before .before .before in
+    let x = said (s .args .head) words in
+    let o : length (s .args .head .order) ≡ 96 = search needs in
+    let body = head-made x o refl _ _ _ _ _ (c .before .before .before .before .before .before .before .before .before .before .before .before .before .before .before .before .before .before .store-four .ensures) (c .before .before .before .before .before .before .before .before .before .before .before .before .before .before .store-order .ensures) (c .before .before .before .before .before .before .before .before .before .before .store-group .ensures) (c .before .before .before .before .before .before .store-zeros .ensures) in
+    block-made editionOne x 0 0 _ _ _ _ (s .pre) (c .before .before .before .before .before .before .before .before .before .before .before .before .before .before .before .before .before .before .before .before .before .before .store-number .ensures) body (c .before .before .store-check .ensures)
+
+pub store-head-spec : {M : Type 1} → statement M
+store-head-spec =
+    tie.close
+    (tie.spec
+    store-number-requires
+    store-four-requires
+    store-order-requires
+    store-group-requires
+    store-zeros-requires
+    store-check-requires
+    same-length
+    returns)

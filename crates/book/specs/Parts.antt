@@ -1,0 +1,25 @@
+-- What the book's private functions promise one another, beside Heads, Fault and Spare.
+-- Assumes nothing.
+use Prim.Native.Nat.{ℕ, zero, suc, _+_, _%_}
+use mathlib.Core.Bool.{Bool}
+use mathlib.Core.List.{List}
+use lib.Dec.{eqb}
+use lib.ListN.{getD, set}
+use Rattle.book.specs.Bytes.{all}
+
+-- a plain sum of words with its carries taken around: what is left by 65535, and 65535 where a sum that is not 0 leaves nothing
+unfoldable pub carried : ℕ → ℕ
+carried zero = 0
+carried (suc s) = 1 + s % 65535
+
+-- out with f 0, f 1, .., n of them, stored from `from` on
+unfoldable pub stored : ℕ → ℕ → (ℕ → ℕ) → List ℕ → List ℕ
+stored from zero f out = out
+stored from (suc n) f out = set (stored from n f out) (from + n) (f n)
+
+-- so many entries of an order from p on are 255
+abbrev pub freeAt : ℕ → List ℕ → ℕ → Bool
+freeAt p order t = eqb (getD order (p + t) 0) 255
+
+unfoldable pub free : ℕ → List ℕ → ℕ → Bool
+free p order count = all count (freeAt p order)
