@@ -10,7 +10,8 @@ use native.Mathlib.Nat.{le-refl, add-zero, mod-eq-of-lt, div-one, zero-div, div-
 use native.Mathlib.Decide.{decLe}
 use native.Mathlib.Numerals.{add-one}
 use lib.Dec.{ltb, eqb}
-use borrow.Author.Tests.{lt-ltb, le-ltb, ltb-true, ltb-false, ne-eqb}
+use borrow.Author.Tests.{lt-ltb, le-ltb, ltb-true, ltb-false, eqb-true, eqb-false, ne-eqb}
+use lib.Bits.{bitAnd, bitOr, or-zero-l, or-add-and, and-le-l, and-le-r, and-comm, and-mask}
 use lib.ListN.{length, getD}
 use lib.Seq.{ext-getD}
 use lib.Arith.{digits-mod, digits-div}
@@ -84,10 +85,22 @@ all-from s (suc m) p g h k =
     let e : s + suc m ≡ suc (s + m) = omega arith in
     rw (e, all-from s m p g h (λ t l. k t (omega arith)), k m (le-refl (suc m))) refl
 
--- a sum is 0 where both parts are
-pub zero-sum : (x y : ℕ) → eqb (x + y) 0 ≡ eqb x 0 && eqb y 0
-zero-sum zero y = ap (λ (z : ℕ). eqb z 0) (zero-add y)
-zero-sum (suc x) y = rw (ne-eqb (suc x) 0 (λ e. omega arith)) (ne-eqb (suc x + y) 0 (λ e. omega arith))
+pub all-ext : (n : ℕ) (p g : ℕ → Bool) → ((i : ℕ) → i < n → p i ≡ g i) → all n p ≡ all n g
+all-ext zero p g h = refl
+all-ext (suc n) p g h = rw (all-ext n p g (λ i l. h i (omega arith)), h n (le-refl (suc n))) refl
+
+-- bits joined by or are none where there are none in both, and bytes joined by and are 255 where both are
+pub or-none : (x y : ℕ) → eqb (bitOr x y) 0 ≡ eqb x 0 && eqb y 0
+or-none x y =
+    ⊎-elim (λ (e : eqb x 0 ≡ true). rw (e, eqb-true x 0 e, or-zero-l y) refl)
+    (λ (e : eqb x 0 ≡ false). rw e (ne-eqb (bitOr x y) 0 (λ z. eqb-false x 0 e (omega (arith, or-add-and x y, and-le-r x y)))))
+    (either (eqb x 0))
+
+pub and-full : (x y : ℕ) → x < 256 → y < 256 → eqb (bitAnd x y) 255 ≡ eqb x 255 && eqb y 255
+and-full x y l m =
+    ⊎-elim (λ (e : eqb x 255 ≡ true). rw (e, eqb-true x 255 e, and-comm 255 y, and-mask y 8, mod-eq-of-lt m) refl)
+    (λ (e : eqb x 255 ≡ false). rw e (ne-eqb (bitAnd x y) 255 (λ z. eqb-false x 255 e (omega (arith, and-le-l x y)))))
+    (either (eqb x 255))
 
 -- ---- the sum and the check
 
@@ -122,37 +135,34 @@ around-carried (suc s) w h =
     (λ (l : ltb t 65536 ≡ false). let k = ltb-false t 65536 l in around-more t k ∙ omega (arith, e))
     (either (ltb t 65536))
 
--- two words read as one number
-carried-two : (s u v : ℕ) → carried (s + u + v) ≡ carried (s + (u * 65536 + v))
-carried-two s u v =
-    ⊎-elim (λ (e : 0 ≡ s + u + v). let a : s + u + v ≡ s + (u * 65536 + v) = omega arith in ap carried a)
-    (λ (l : 0 < s + u + v).
-    let a = carried-some (s + u + v) l in
-    let b = carried-some (s + (u * 65536 + v)) (omega arith) in
-    omega (arith, a, b))
+-- a multiple of 65535 leaves nothing
+carried-turns : (s k : ℕ) → (s ≡ 0 → k ≡ 0) → carried (s + 65535 * k) ≡ carried s
+carried-turns s k h =
+    ⊎-elim (λ (e : 0 ≡ s). let a : s + 65535 * k ≡ s = omega (arith, h (sym e)) in ap carried a)
+    (λ (l : 0 < s). omega (arith, carried-some s l, carried-some (s + 65535 * k) (omega arith)))
     (eq-or-lt-of-le zero-le)
 
-pub sum16-two : (f : ℕ → ℕ) (c s : ℕ) → ((p : ℕ) → f p < 256) → carried s ≡ sum16 c f
-    → carried (s + big 4 (λ t. f (2 * c + t))) ≡ sum16 (suc (suc c)) f
-unfolding sum16
-sum16-two f c s h e =
-    let u : ℕ = f (2 * c) * 256 + f (2 * c + 1) in
-    let v : ℕ = f (2 * suc c) * 256 + f (2 * suc c + 1) in
-    let same : (i j : ℕ) → i ≡ j → f i ≡ f j = λ i j r. ap f r in
-    let a : s + big 4 (λ t. f (2 * c + t)) ≡ s + (u * 65536 + v) =
-    omega (arith, same (2 * c + 0) (2 * c) (omega arith), same (2 * c + 2) (2 * suc c) (omega arith), same (2 * c + 3) (2 * suc c + 1) (omega arith))
-    in
-    let x : u < 65536 = omega (arith, h (2 * c), h (2 * c + 1)) in
-    let y : v < 65536 = omega (arith, h (2 * suc c), h (2 * suc c + 1)) in
-    ap carried a ∙ sym (carried-two s u v) ∙ sym (around-carried (s + u) v y) ∙ ap (λ (t : ℕ). around (t + v)) (sym (around-carried s u x))
-    ∙ ap (λ (t : ℕ). around (around (t + u) + v)) e
+-- a plain sum and one more word, and 256 times a plain sum and two words more, read as one number low byte first
+module _ (f : ℕ → ℕ) (bytes : (p : ℕ) → f p < 256) where
+  pub sum16-word : (c s : ℕ) → carried s ≡ sum16 c f → carried (s + (f (2 * c) * 256 + f (2 * c + 1))) ≡ sum16 (suc c) f
+  unfolding sum16
+  sum16-word c s e =
+      let w : ℕ = f (2 * c) * 256 + f (2 * c + 1) in
+      sym (around-carried s w (omega (arith, bytes (2 * c), bytes (2 * c + 1)))) ∙ ap (λ (t : ℕ). around (t + w)) e
 
-pub sum16-one : (f : ℕ → ℕ) → ((p : ℕ) → f p < 256) → carried (big 2 f) ≡ sum16 1 f
-unfolding sum16 carried
-sum16-one f h =
-    let w : ℕ = f 0 * 256 + f 1 in
-    let a : big 2 f ≡ 0 + w = omega arith in
-    ap carried a ∙ sym (around-carried 0 w (omega (arith, h 0, h 1)))
+  pub sum16-pair : (c s : ℕ) → carried (256 * s) ≡ sum16 c f → carried (256 * (s + little 4 (λ t. f (2 * c + t)))) ≡ sum16 (suc (suc c)) f
+  sum16-pair c s e =
+      let u : ℕ = f (2 * c) * 256 + f (2 * c + 1) in
+      let v : ℕ = f (2 * suc c) * 256 + f (2 * suc c + 1) in
+      let k : ℕ = f (2 * c + 1) + 256 * f (2 * c + 2) + 65537 * f (2 * c + 3) in
+      let same : (i j : ℕ) → i ≡ j → f i ≡ f j = λ i j r. ap f r in
+      let a : 256 * (s + little 4 (λ t. f (2 * c + t))) ≡ 256 * s + u + v + 65535 * k =
+      omega (arith, same (2 * c + 0) (2 * c) (omega arith), same (2 * suc c) (2 * c + 2) (omega arith), same (2 * suc c + 1) (2 * c + 3) (omega arith))
+      in
+      let none : 256 * s + u + v ≡ 0 → k ≡ 0 =
+      λ z. omega (arith, same (2 * suc c) (2 * c + 2) (omega arith), same (2 * suc c + 1) (2 * c + 3) (omega arith))
+      in
+      ap carried a ∙ carried-turns (256 * s + u + v) k none ∙ sum16-word (suc c) (256 * s + u) (sum16-word c (256 * s) e)
 
 pub check-ext : (f g : ℕ → ℕ) → ((p : ℕ) → p < 510 → f p ≡ g p) → checkOf f ≡ checkOf g
 unfolding checkOf

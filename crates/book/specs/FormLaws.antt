@@ -8,6 +8,7 @@ use mathlib.Core.List.{List}
 use native.Mathlib.Omega.{arith}
 use native.Mathlib.Numerals.{add-one}
 use lib.Dec.{ltb, leb, eqb}
+use lib.Bits.{bitAnd}
 use lib.ListN.{getD}
 use lib.Pow.{pow-pos}
 use borrow.Author.Tests.{lt-ltb, le-ltb, ltb-true, eqb-true, leb-true, eq-eqb, ne-eqb}
@@ -16,7 +17,7 @@ use Rattle.rows.specs.Sets.{word, has, mask, setOf, within, none, withRow}
 use Rattle.rows.specs.SetLaws.{set-ext, has-set-of}
 use Rattle.rows.specs.declared.sets.Set.{Set}
 use Rattle.book.specs.Bytes.{all}
-use Rattle.book.specs.ByteLaws.{side, all-at, all-from, zero-sum}
+use Rattle.book.specs.ByteLaws.{side, all-at, all-make, all-ext, and-full}
 use Rattle.book.specs.Form.{among, entryFits, orderFits, groupFits, empty, formed}
 use Rattle.book.specs.Parts.{freeAt, free}
 use Rattle.book.specs.declared.verdicts.Verdict.{Verdict}
@@ -42,28 +43,25 @@ module _ (order : List ℕ) where
       (λ (e : ltb k p ≡ false). rw e refl)
       (either (ltb k p)))
 
--- entries are 255 where what they lack of it adds up to 0
-pub free-none : (p : ℕ) (order : List ℕ) → eqb 0 0 ≡ free p order 0
+-- entries are 255 where all their bits together are 255
+pub free-none : (p : ℕ) (order : List ℕ) → eqb 255 255 ≡ free p order p
 unfolding free
-free-none p order = refl
+free-none p order = sym (all-make p (freeAt p order) (λ i l. rw (lt-ltb i p l) refl))
 
-pub free-more : (p : ℕ) (order : List ℕ) (t lack x : ℕ) → x ≡ getD order (p + t) 0 → x < 256 → eqb lack 0 ≡ free p order t
-    → eqb (lack + (255 - x)) 0 ≡ free p order (t + 1)
+pub free-more : (p : ℕ) (order : List ℕ) (i bits : ℕ) → p ≤ i → bits < 256 → getD order i 0 < 256 → eqb bits 255 ≡ free p order i
+    → eqb (bitAnd bits (getD order i 0)) 255 ≡ free p order (i + 1)
 unfolding free
-free-more p order t lack x e l h = zero-sum lack (255 - x) ∙ rw (add-one t, ← h, ← e) (ap (λ (b : Bool). eqb lack 0 && b) (go (side 255 x)))
-  where
-    go : (255 ≤ x) ⊎ (x < 255) → eqb (255 - x) 0 ≡ eqb x 255
-    go (inl k) = eq-eqb (255 - x) 0 (omega arith) ∙ sym (eq-eqb x 255 (omega arith))
-    go (inr k) = ne-eqb (255 - x) 0 (λ z. omega arith) ∙ sym (ne-eqb x 255 (λ z. omega arith))
+free-more p order i bits h l m e = rw (add-one i, ← e, le-ltb i p h) (and-full bits (getD order i 0) l m)
 
 -- an order whose first p entries fit is left to fit by the others
-pub order-rest : (p : ℕ) (order : List ℕ) → p ≤ 96 → all p (entryFits p order) ≡ true → free p order (96 - p) ≡ orderFits p order
+pub order-rest : (p : ℕ) (order : List ℕ) → all p (entryFits p order) ≡ true → free p order 96 ≡ orderFits p order
 unfolding free orderFits
-order-rest p order h fit =
-    let whole : p + (96 - p) ≡ 96 = omega arith in
-    sym (ap (λ (c : ℕ). all c (entryFits p order)) (sym whole)
-    ∙ all-from p (96 - p) (entryFits p order) (freeAt p order) (λ q l. all-at p (entryFits p order) fit q l)
-    (λ t l. rw (le-ltb (p + t) p (omega arith)) refl))
+order-rest p order fit =
+    all-ext 96 (freeAt p order) (entryFits p order)
+    (λ i _.
+    ⊎-elim (λ (h : p ≤ i). rw (le-ltb i p h) refl)
+    (λ (h : i < p). let e = all-at p (entryFits p order) fit i h in rw (lt-ltb i p h) (rw (lt-ltb i p h) at (sym e)))
+    (side p i))
 
 -- a group that fits n rows has no bit from n on
 pub formed-group : (n : ℕ) (v : Verdict) → formed n v ≡ true → word (v .group) < 2 ^ n

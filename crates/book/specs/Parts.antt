@@ -1,9 +1,9 @@
 -- What the book's private functions promise one another, beside Heads, Fault and Spare.
 -- Assumes nothing.
 use Prim.Native.Nat.{ℕ, zero, suc, _+_, _%_}
-use mathlib.Core.Bool.{Bool}
+use mathlib.Core.Bool.{Bool, true, cond}
 use mathlib.Core.List.{List}
-use lib.Dec.{eqb}
+use lib.Dec.{ltb, eqb}
 use lib.ListN.{getD, set}
 use Rattle.book.specs.Bytes.{all}
 
@@ -17,9 +17,9 @@ unfoldable pub stored : ℕ → ℕ → (ℕ → ℕ) → List ℕ → List ℕ
 stored from zero f out = out
 stored from (suc n) f out = set (stored from n f out) (from + n) (f n)
 
--- so many entries of an order from p on are 255
+-- entry i of an order of p rows is 255 where it stands behind them; so are all before entry n
 abbrev pub freeAt : ℕ → List ℕ → ℕ → Bool
-freeAt p order t = eqb (getD order (p + t) 0) 255
+freeAt p order i = cond (ltb i p) true (eqb (getD order i 0) 255)
 
 unfoldable pub free : ℕ → List ℕ → ℕ → Bool
-free p order count = all count (freeAt p order)
+free p order n = all n (freeAt p order)

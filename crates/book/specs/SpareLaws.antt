@@ -10,6 +10,7 @@ use native.Mathlib.Omega.{arith}
 use native.Mathlib.Nat.{zero-add, mul-comm, div-one}
 use native.Mathlib.Numerals.{add-one}
 use lib.Arith.{digits-div, digits-mod}
+use lib.Bits.{bitOr}
 use lib.Dec.{ltb, leb, eqb}
 use lib.ListN.{length, getD, List·getD-eq-default}
 use borrow.Author.Tests.{eqb-true, eq-eqb, lt-ltb, le-ltb, le-leb, lt-leb}
@@ -18,7 +19,7 @@ use Rattle.rows.specs.Judge.{Check, check, checkAt}
 use Rattle.rows.specs.Numbers.{row-range, short-output, book-field}
 use Rattle.rows.specs.Sets.{word}
 use Rattle.book.specs.Bytes.{byte, big, little, checkOf, all}
-use Rattle.book.specs.ByteLaws.{run-length, run-at, all-at, all-make, all-from, zero-sum, side, check-ext, check-fits, byte-little, byte-big, byte-low, byte-high, byte-none, little-lt}
+use Rattle.book.specs.ByteLaws.{run-length, run-at, all-at, all-make, all-from, or-none, side, check-ext, check-fits, byte-little, byte-big, byte-low, byte-high, byte-none, little-lt}
 use Rattle.book.specs.Fault.{faultOf}
 use Rattle.book.specs.Form.{formed}
 use Rattle.book.specs.Layout.{Edition, editionOne, longest, blocks, head, inner, opened, sealed, at}
@@ -214,15 +215,15 @@ module _ (e : Edition) (f : Fit e) (b : List ℕ) (bytes : (i : ℕ) → getD b 
         (either (spelled e (content e b) b)))
         (either (zeros e (getD b 4 0) b))
 
--- ---- bytes that are zero by their sum
+-- ---- bytes that are zero by their bits together
 
 pub blank-none : (b : List ℕ) (from : ℕ) → eqb 0 0 ≡ blank b from 0
 unfolding blank
 blank-none b from = refl
 
-pub blank-more : (b : List ℕ) (from t sum : ℕ) → eqb sum 0 ≡ blank b from t → eqb (sum + getD b (from + t) 0) 0 ≡ blank b from (t + 1)
+pub blank-more : (b : List ℕ) (from t bits : ℕ) → eqb bits 0 ≡ blank b from t → eqb (bitOr bits (getD b (from + t) 0)) 0 ≡ blank b from (t + 1)
 unfolding blank
-blank-more b from t sum h = rw (add-one t, ← h) (zero-sum sum (getD b (from + t) 0))
+blank-more b from t bits h = rw (add-one t, ← h) (or-none bits (getD b (from + t) 0))
 
 -- ---- the spare bytes of a block as a run
 

@@ -99,16 +99,17 @@ fn carried(s: u64) -> u32
     (1 + (s - 1) % 65535) as u32
 }
 
-// The ones' complement sum of the 255 words from `at` on: the first, and two at a time.
+// The ones' complement sum of the 255 words from `at` on: 127 pairs, and the last.
+// A pair is read low byte first, as the processor reads it; 256 times their plain sum sets the bytes right but for carries.
 pub(crate) fn block_sum(bytes: &[u8], at: usize) -> u32
     requires { ⌜ at + 510 ≤ length (now bytes) ⌝ }
     ensures { λ r. ⌜ (r ≡ sum16 255 (λ p. getD (now (bytes .entry)) (at + p) 0)) × (r < 65536) ⌝ }
 {
-    let mut s = read_u16(bytes, at) as u64;
+    let mut s: u64 = 0;
     let mut i: usize = 0;
     while i < 127 {
-        s += read_u32(bytes, at + 2 + 4 * i) as u64;
+        s += read_low_first(bytes, at + 4 * i) as u64;
         i += 1;
     }
-    carried(s)
+    carried(256 * s + read_u16(bytes, at + 508) as u64)
 }

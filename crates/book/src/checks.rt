@@ -94,26 +94,26 @@ fn head_fault(book: &[u8]) -> Fault
     Fault::Clear
 }
 
-// So many bytes from `from` on are zero.
+// So many bytes from `from` on are zero. No early exit, so that the compiler takes many bytes at once.
 fn blank(book: &[u8], from: usize, count: usize) -> bool
-    requires { ⌜ (count ≤ 512) × (from + count ≤ length (now book)) ⌝ }
+    requires { ⌜ from + count ≤ length (now book) ⌝ }
     ensures { λ r. ⌜ r ≡ blankOf (now (book .entry)) from count ⌝ }
 {
-    let mut sum: u32 = 0;
+    let mut bits: u8 = 0;
     let mut t: usize = 0;
     while t < count {
-        sum += bytes::wide(book[from + t]);
+        bits = bits | book[from + t];
         t += 1;
     }
-    sum == 0
+    bits == 0
 }
 
 // Row block k of a book of n rows is zero behind its words.
 fn rows_blank(book: &[u8], n: usize, k: usize) -> bool
-    requires { ⌜ (n ≤ 96) × (k < 4) × (126 * k ≤ 3 * n) × (512 * (k + 1) + 512 ≤ length (now book)) ⌝ }
+    requires { ⌜ (n ≤ 96) × (42 * k ≤ n) × (512 * (k + 1) + 512 ≤ length (now book)) ⌝ }
     ensures { λ r. ⌜ r ≡ zeroBlock editionOne n (now (book .entry)) (k + 1) ⌝ }
 {
-    let count = layout::words_in(3 * n, k);
+    let count = layout::words_in(n, k);
     blank(book, 512 * (k + 1) + 2 + 4 * count, 508 - 4 * count)
 }
 
@@ -126,7 +126,7 @@ fn all_zero(book: &[u8], n: usize) -> bool
         return false;
     }
     let mut k: usize = 0;
-    while k < layout::row_blocks(n) {
+    while 42 * k < n {
         if !rows_blank(book, n, k) {
             return false;
         }
@@ -159,15 +159,15 @@ fn lowest_bad(book: &[u8], n: usize) -> usize
     i
 }
 
-// The verdict has its form, and every spare byte is zero.
+// Every spare byte is zero, and the verdict has its form.
 fn fields_fit(book: &[u8], n: usize) -> bool
     requires { ⌜ (n ≤ 96) × (length (now book) ≡ 512 * blocks editionOne n) ⌝ }
     ensures { λ r. ⌜ r ≡ formedOf n (verdictOf (now (book .entry))) && zeros editionOne n (now (book .entry)) ⌝ }
 {
-    if !verdicts::formed(n, fields::verdict_at(book)) {
+    if !all_zero(book, n) {
         return false;
     }
-    all_zero(book, n)
+    verdicts::formed(n, fields::verdict_at(book))
 }
 
 // 13, 3 and 8.

@@ -16,29 +16,21 @@ pub(crate) struct Head {
     pub(crate) group: Set,
 }
 
-// The blocks of n rows.
-pub(crate) fn row_blocks(n: usize) -> usize
-    requires { ⌜ n ≤ 96 ⌝ }
-    ensures { λ r. ⌜ 1 + r ≡ blocks editionOne n ⌝ }
-{
-    (3 * n + 125) / 126
-}
-
 // The bytes of a book of n rows.
 pub(crate) fn size(n: usize) -> usize
     requires { ⌜ n ≤ 96 ⌝ }
     ensures { λ r. ⌜ r ≡ 512 * blocks editionOne n ⌝ }
 {
-    512 * (1 + row_blocks(n))
+    512 * (1 + (3 * n + 125) / 126)
 }
 
-// How many words of so many stand in row block k.
-pub(crate) fn words_in(all: usize, k: usize) -> usize
-    requires { ⌜ (k < 4) × (126 * k ≤ all) ⌝ }
-    ensures { λ r. ⌜ (r ≤ 126) × (126 * k + r ≤ all) × ((j : ℕ) → r ≤ j → j < 126 → all ≤ 126 * k + j) ⌝ }
+// How many words of n rows stand in row block k, which has room for 42 rows.
+pub(crate) fn words_in(n: usize, k: usize) -> usize
+    requires { ⌜ (n ≤ 96) × (42 * k ≤ n) ⌝ }
+    ensures { λ r. ⌜ (r ≤ 126) × (126 * k + r ≤ 3 * n) × ((j : ℕ) → r ≤ j → j < 126 → 3 * n ≤ 126 * k + j) ⌝ }
 {
-    let rest = all - 126 * k;
-    if rest < 126 { rest } else { 126 }
+    let rest = n - 42 * k;
+    if rest < 42 { 3 * rest } else { 126 }
 }
 
 // Byte j of a group, row 0 the lowest bit of byte 0.

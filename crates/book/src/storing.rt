@@ -75,20 +75,20 @@ fn store_words(out: &mut [u8], at: usize, words: &[u32], first: usize, count: us
     requires { ⌜ (at + 4 * count ≤ length (now out)) × (first + count ≤ length (now words)) ⌝ }
     ensures { λ _. ⌜ now (out .exit) ≡ stored at (4 * count) (λ q. byte (3 - q % 4) (getD (now (words .entry)) (first + q / 4) 0)) (now (out .entry)) ⌝ }
 {
-    let mut j: usize = 0;
-    while j < count {
-        bytes::store_u32(out, at + 4 * j, words[first + j]);
+    let mut j: usize = first;
+    while j < first + count {
+        bytes::store_u32(out, at + 4 * (j - first), words[j]);
         j += 1;
     }
 }
 
-// Row block k, which is block k + 1.
-pub(crate) fn store_rows(out: &mut [u8], words: &[u32], k: usize)
-    requires { ⌜ (k < 4) × (126 * k ≤ length (now words)) × (512 * (k + 1) + 512 ≤ length (now out)) ⌝ }
+// Row block k of a table of n rows, which is block k + 1.
+pub(crate) fn store_rows(out: &mut [u8], words: &[u32], n: usize, k: usize)
+    requires { ⌜ (n ≤ 96) × (length (now words) ≡ 3 * n) × (42 * k ≤ n) × (512 * (k + 1) + 512 ≤ length (now out)) ⌝ }
     ensures { λ _. ⌜ ((head : Head) → now (out .exit) ≡ stored (512 * (k + 1)) 512 (sealed editionOne (said head (now (words .entry))) (k + 1)) (now (out .entry))) ⌝ }
 {
     let at = 512 * (k + 1);
-    let count = layout::words_in(words.len(), k);
+    let count = layout::words_in(n, k);
     store_number(out, at, k + 1);
     store_words(out, at + 2, words, 126 * k, count);
     bytes::store_zeros(out, at + 2 + 4 * count, 508 - 4 * count);

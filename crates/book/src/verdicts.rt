@@ -1,12 +1,11 @@
 // A verdict and its form.
 ghost use mathlib.Core.Path.{_≡_};
 ghost use mathlib.Core.Bool.{not, _&&_};
-ghost use Prim.Native.Nat.{_-_, _≤_};
+ghost use Prim.Native.Nat.{_≤_};
 ghost use lib.Dec.{ltb};
 ghost use Rattle.rows.specs.Sets.{has};
 ghost use Rattle.book.specs.Form.{orderFits, groupFits, formed as formedOf};
 ghost use Rattle.book.specs.Parts.{free};
-use crate::bytes;
 use rows::Set;
 
 // Kind 0 none, 1 order, 2 blocked; the order and the group as they stand in block 0.
@@ -23,18 +22,18 @@ fn row_fits(seen: Set, row: usize, p: usize) -> bool
     if row < p { !seen.has(row) } else { false }
 }
 
-// The entries from p on are 255.
+// The entries from p on are 255. No early exit, so that the compiler takes many at once.
 fn rest_free(order: [u8; 96], p: usize) -> bool
     requires { ⌜ p ≤ 96 ⌝ }
-    ensures { λ r. ⌜ r ≡ free p order (96 - p) ⌝ }
+    ensures { λ r. ⌜ r ≡ free p order 96 ⌝ }
 {
-    let mut lack: u32 = 0;
-    let mut t: usize = 0;
-    while t < 96 - p {
-        lack += 255 - bytes::wide(order[p + t]);
-        t += 1;
+    let mut bits: u8 = 255;
+    let mut i: usize = p;
+    while i < 96 {
+        bits = bits & order[i];
+        i += 1;
     }
-    lack == 0
+    bits == 255
 }
 
 // A permutation of the p rows in the first p entries, all else 255.

@@ -21,13 +21,13 @@ pub struct BookWritten {
 
 // The book of a head and a table at the start of `out`. Later bytes stay.
 fn store_book(head: Head, words: &[u32], out: &mut [u8])
-    requires { ⌜ (head .n ≤ 96) × (3 * head .n ≤ length (now words)) × (512 * blocks editionOne (head .n) ≤ length (now out)) ⌝ }
+    requires { ⌜ (head .n ≤ 96) × (length (now words) ≡ 3 * head .n) × (512 * blocks editionOne (head .n) ≤ length (now out)) ⌝ }
     ensures { λ _. ⌜ now (out .exit) ≡ bookOf editionOne (said head (now (words .entry))) ++ drop (512 * blocks editionOne (head .n)) (now (out .entry)) ⌝ }
 {
     storing::store_head(out, head);
     let mut k: usize = 0;
-    while k < layout::row_blocks(head.n as usize) {
-        storing::store_rows(out, words, k);
+    while 42 * k < head.n as usize {
+        storing::store_rows(out, words, head.n as usize, k);
         k += 1;
     }
 }

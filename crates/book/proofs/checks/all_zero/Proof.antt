@@ -36,8 +36,8 @@ loop-holds c =
     let a = c .before .before .before .args in
     (omega arith, head-blank (a .n) (a .book .now) ∙ sym (c .before .blank .ensures) ∙ not-false _ (c .if1 .left))
 
-row-blocks-requires : tie.Need-row-blocks-requires Inv-loop μ-loop
-row-blocks-requires c κs = search needs
+mul-loop : tie.Need-mul-loop Inv-loop μ-loop
+mul-loop c = search needs
 
 rows-blank-requires : tie.Need-rows-blank-requires Inv-loop μ-loop
 rows-blank-requires c κs = search needs
@@ -45,12 +45,12 @@ rows-blank-requires c κs = search needs
 returns-2 : tie.Need-returns-2 Inv-loop μ-loop
 unfolding zeros
 returns-2 c =
-    let s = c .before .before .before .before .before .before .before .before in
-    let l = c .before .before .before .before .loop in
-    let bad = sym (c .before .rows-blank .ensures) ∙ not-true _ (c .if3 .taken) in
+    let s = c .before .before .before .before .before .before .before in
+    let l = c .before .before .before .loop in
+    let bad = sym (c .before .rows-blank .ensures) ∙ not-true _ (c .if2 .taken) in
     sym
     (all-fails (length (s .args .book .now) / 512) (zeroBlock editionOne (s .args .n) (s .args .book .now)) (l .k + 1)
-    (omega (arith, s .pre .1, c .before .before .before .row-blocks .ensures)) bad)
+    (omega (arith, s .pre .1)) bad)
 
 add-k : tie.Need-add-k Inv-loop μ-loop
 add-k c = search needs
@@ -60,17 +60,17 @@ loop-less c = search needs
 
 loop-again : tie.Need-loop-again Inv-loop μ-loop
 loop-again c =
-    let a = c .before .before .before .before .before .before .before .before .args in
-    let l = c .before .before .before .before .loop in
-    let good = sym (c .before .rows-blank .ensures) ∙ not-false _ (c .if3 .left) in
-    (omega (arith, c .before .before .before .row-blocks .ensures), all-more (l .k + 1) (zeroBlock editionOne (a .n) (a .book .now)) (l .inv .1) good)
+    let a = c .before .before .before .before .before .before .before .args in
+    let l = c .before .before .before .loop in
+    let good = sym (c .before .rows-blank .ensures) ∙ not-false _ (c .if2 .left) in
+    (omega arith, all-more (l .k + 1) (zeroBlock editionOne (a .n) (a .book .now)) (l .inv .1) good)
 
 returns-3 : tie.Need-returns-3 Inv-loop μ-loop
 unfolding zeros
 returns-3 c =
-    let s = c .before .before .before .before .before .before in
-    let l = c .before .before .loop in
-    let e : l .k + 1 ≡ length (s .args .book .now) / 512 = omega (arith, s .pre .1, c .before .row-blocks .ensures) in
+    let s = c .before .before .before .before .before in
+    let l = c .before .loop in
+    let e : l .k + 1 ≡ length (s .args .book .now) / 512 = omega (arith, s .pre .1) in
     sym (rw e at (l .inv .1))
 
 pub all-zero-spec : {M : Type 1} → statement M
@@ -82,7 +82,7 @@ all-zero-spec =
     blank-requires
     returns
     loop-holds
-    row-blocks-requires
+    mul-loop
     rows-blank-requires
     returns-2
     add-k

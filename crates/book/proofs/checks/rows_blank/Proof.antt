@@ -11,9 +11,6 @@ use borrow.Author.Needs.{needs}
 use Rattle.book.proofs.checks.rows_blank.Statement.{statement}
 use Rattle.book.proofs.checks.rows_blank.Tie as tie
 
-mul-words-in : tie.Need-mul-words-in
-mul-words-in c = search needs
-
 words-in-requires : tie.Need-words-in-requires
 words-in-requires c κs = search needs
 
@@ -54,7 +51,6 @@ pub rows-blank-spec : {M : Type 1} → statement M
 rows-blank-spec =
     tie.close
     (tie.spec
-    mul-words-in
     words-in-requires
     add-blank
     mul-blank

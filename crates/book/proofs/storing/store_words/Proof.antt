@@ -1,4 +1,4 @@
--- The loop's invariant: j words are stored, four bytes each, and the bytes are as many as they were.
+-- The loop's invariant: the words up to word j are stored, four bytes each, and the bytes are as many as they were.
 -- A turn stores the next. Assumes nothing.
 use Prim.Native.Nat.{ℕ, _+_, _-_, _*_, _/_, _%_, _≤_, _<_}
 use mathlib.Core.Path.{_≡_, refl, ap, _∙_}
@@ -12,14 +12,18 @@ use Rattle.book.proofs.storing.store_words.Statement.{statement}
 use Rattle.book.proofs.storing.store_words.Tie as tie
 
 abbrev Inv-loop : tie.InvT-loop
-Inv-loop out₀ at words first count j₀ out j = (j ≤ count) × (length out ≡ length out₀) × (out ≡ stored at (4 * j) (λ q. byte (3 - q % 4) (getD words (first + q / 4) 0)) out₀)
+Inv-loop out₀ at words first count j₀ out j =
+    (first ≤ j) × (j ≤ first + count) × (length out ≡ length out₀)
+    × (out ≡ stored at (4 * (j - first)) (λ q. byte (3 - q % 4) (getD words (first + q / 4) 0)) out₀)
 
 abbrev μ-loop : tie.MeasureT-loop
-μ-loop out₀ at words first count j₀ out j = count - j
+μ-loop out₀ at words first count j₀ out j = first + count - j
 
 loop-holds : tie.Need-loop-holds Inv-loop μ-loop
 unfolding stored
-loop-holds c = (omega arith, refl, refl)
+loop-holds c =
+    let z : 4 * (c .before .before .args .first - c .before .before .args .first) ≡ 0 = omega arith in
+    (omega arith, omega arith, refl, rw z refl)
 
 mul-store-u32 : tie.Need-mul-store-u32 Inv-loop μ-loop
 mul-store-u32 c = search needs
@@ -27,8 +31,11 @@ mul-store-u32 c = search needs
 add-store-u32 : tie.Need-add-store-u32 Inv-loop μ-loop
 add-store-u32 c = search needs
 
-add-store-u32-2 : tie.Need-add-store-u32-2 Inv-loop μ-loop
-add-store-u32-2 c = search needs
+add-loop : tie.Need-add-loop Inv-loop μ-loop
+add-loop c = search needs
+
+sub-store-u32 : tie.Need-sub-store-u32 Inv-loop μ-loop
+sub-store-u32 c = search needs
 
 mul-store-u32-2 : tie.Need-mul-store-u32-2 Inv-loop μ-loop
 mul-store-u32-2 c = search needs
@@ -50,29 +57,31 @@ loop-again c =
     let l = c .before .before .before .before .before .before .loop in
     let a = c .before .before .before .before .before .before .before .before .before .args in
     let f : ℕ → ℕ = λ q. byte (3 - q % 4) (getD (a .words .now) (a .first + q / 4) 0) in
-    let g : ℕ → ℕ = λ t. byte (3 - t) (getD (a .words .now) (a .first + l .j) 0) in
-    let same : (t : ℕ) → t < 4 → g t ≡ f (4 * l .j + t) =
+    let g : ℕ → ℕ = λ t. byte (3 - t) (getD (a .words .now) (l .j) 0) in
+    let so-far : ℕ = 4 * (l .j - a .first) in
+    let same : (t : ℕ) → t < 4 → g t ≡ f (so-far + t) =
     λ t h.
-    let r : (4 * l .j + t) % 4 ≡ t = omega arith in
-    let d : (4 * l .j + t) / 4 ≡ l .j = omega arith in
+    let r : (so-far + t) % 4 ≡ t = omega arith in
+    let d : a .first + (so-far + t) / 4 ≡ l .j = omega arith in
     rw (r, d) refl
     in
-    let e : 4 * l .j + 4 ≡ 4 * (l .j + 1) = omega arith in (
+    let e : so-far + 4 ≡ 4 * (l .j + 1 - a .first) = omega arith in (
       omega arith,
-      ap length (c .before .before .store-u32 .ensures) ∙ stored-length (a .at + 4 * l .j) 4 g (l .out) ∙ l .inv .1,
-      c .before .before .store-u32 .ensures ∙ ap (stored (a .at + 4 * l .j) 4 g) (l .inv .2) ∙ stored-more (a .at) (4 * l .j) 4 f g (a .out .now) same
+      omega arith,
+      ap length (c .before .before .store-u32 .ensures) ∙ stored-length (a .at + so-far) 4 g (l .out) ∙ l .inv .2,
+      c .before .before .store-u32 .ensures ∙ ap (stored (a .at + so-far) 4 g) (l .inv .3) ∙ stored-more (a .at) so-far 4 f g (a .out .now) same
           ∙ ap (λ (n : ℕ). stored (a .at) n f (a .out .now)) e,
     )
 
 same-length : tie.Need-same-length Inv-loop μ-loop
-same-length c = c .before .loop .inv .1
+same-length c = c .before .loop .inv .2
 
 returns : tie.Need-returns Inv-loop μ-loop
 returns c =
     let l = c .before .loop in
     let a = c .before .before .before .before .args in
-    let e : l .j ≡ a .count = omega arith in
-    l .inv .2 ∙ ap (λ (k : ℕ). stored (a .at) (4 * k) (λ q. byte (3 - q % 4) (getD (a .words .now) (a .first + q / 4) 0)) (a .out .now)) e
+    let e : l .j - a .first ≡ a .count = omega arith in
+    l .inv .3 ∙ ap (λ (k : ℕ). stored (a .at) (4 * k) (λ q. byte (3 - q % 4) (getD (a .words .now) (a .first + q / 4) 0)) (a .out .now)) e
 
 pub store-words-spec : {M : Type 1} → statement M
 store-words-spec =
@@ -81,9 +90,10 @@ store-words-spec =
     Inv-loop
     μ-loop
     loop-holds
+    add-loop
+    sub-store-u32
     mul-store-u32
     add-store-u32
-    add-store-u32-2
     mul-store-u32-2
     shared-slice-read-store-u32
     store-u32-requires

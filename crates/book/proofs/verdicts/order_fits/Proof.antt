@@ -73,7 +73,7 @@ returns-2 c =
     let l = c .before .before .loop in
     let a = c .before .before .before .args in
     let e : l .i ≡ a .p = omega arith in
-    c .rest-free .ensures ∙ order-rest (a .p) (a .t1) (omega arith) (rw e at (l .inv .1))
+    c .rest-free .ensures ∙ order-rest (a .p) (a .t1) (rw e at (l .inv .1))
 
 pub order-fits-spec : {M : Type 1} → statement M
 order-fits-spec =

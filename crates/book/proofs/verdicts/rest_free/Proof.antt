@@ -1,9 +1,14 @@
--- The loop's invariant: what t entries lack of 255 adds up to 0 exactly where all of them are 255, and it fits.
--- A turn adds what the next one lacks. Assumes nothing.
-use Prim.Native.Nat.{_*_, _-_, _≤_}
-use mathlib.Core.Path.{_≡_, ap, _∙_}
+-- The loop's invariant: the bits that all entries from p up to i have are 255 exactly where all of these are 255.
+-- A turn keeps those that the next entry has too. Assumes nothing.
+use Prim.Native.Nat.{_-_, _≤_, _<_}
+use mathlib.Core.Path.{_≡_}
 use native.Mathlib.Omega.{arith}
+use native.Mathlib.Nat.{lt-of-le-of-lt}
+use lib.Bits.{and-le-l}
 use lib.Dec.{eqb}
+use lib.ListN.{getD}
+use mir.Syntax.{w8}
+use mir.Val.{Fits}
 use Rattle.book.specs.FormLaws.{free-none, free-more}
 use Rattle.book.specs.Parts.{free}
 use borrow.Author.Needs.{needs}
@@ -11,51 +16,27 @@ use Rattle.book.proofs.verdicts.rest_free.Statement.{statement}
 use Rattle.book.proofs.verdicts.rest_free.Tie as tie
 
 abbrev Inv-loop : tie.InvT-loop
-Inv-loop p order lack₀ t₀ lack t = (t ≤ 96 - p) × (lack ≤ 255 * t) × (eqb lack 0 ≡ free p order t)
+Inv-loop p order bits₀ i₀ bits i = (p ≤ i) × (i ≤ 96) × (bits < 256) × (eqb bits 255 ≡ free p order i)
 
 abbrev μ-loop : tie.MeasureT-loop
-μ-loop p order lack₀ t₀ lack t = 96 - p - t
-
-loop-holds : tie.Need-loop-holds Inv-loop μ-loop
-loop-holds c = (omega arith, omega arith, free-none _ _)
-
-sub-loop : tie.Need-sub-loop Inv-loop μ-loop
-sub-loop c = search needs
-
-add-wide : tie.Need-add-wide Inv-loop μ-loop
-add-wide c = search needs
-
-array-read-wide : tie.Need-array-read-wide Inv-loop μ-loop
-array-read-wide c = search needs
-
-wide-requires : tie.Need-wide-requires Inv-loop μ-loop
-wide-requires c κs = search needs
-
-sub-lack : tie.Need-sub-lack Inv-loop μ-loop
-sub-lack c = search needs
-
-add-lack : tie.Need-add-lack Inv-loop μ-loop
-add-lack c = search needs
-
-add-t : tie.Need-add-t Inv-loop μ-loop
-add-t c = search needs
-
-loop-less : tie.Need-loop-less Inv-loop μ-loop
-loop-less c = search needs
+μ-loop p order bits₀ i₀ bits i = 96 - i
 
 loop-again : tie.Need-loop-again Inv-loop μ-loop
 loop-again c =
-    let l = c .before .before .loop in
-    let a = c .before .before .before .args in
-    let entry = c .wide .ensures in
-    (omega arith, omega arith, free-more (a .p) (a .t1) (l .t) (l .lack) (c .wide .result) (entry .0) (entry .1) (l .inv .2))
+    let l = c .before .loop in
+    let a = c .before .before .args in
+    let fits : Fits w8 (getD (a .t1) (l .i) 0) = search needs in (
+      omega arith,
+      omega arith,
+      lt-of-le-of-lt (and-le-l _ _) (l .inv .2),
+      free-more (a .p) (a .t1) (l .i) (l .bits) (l .inv .0) (l .inv .2) (omega (arith, fits)) (l .inv .3),
+    )
 
 returns : tie.Need-returns Inv-loop μ-loop
 returns c =
     let l = c .before .loop in
-    let a = c .before .before .args in
-    let e : l .t ≡ 96 - a .p = omega arith in
-    l .inv .2 ∙ ap (free (a .p) (a .t1)) e
+    let e : l .i ≡ 96 = omega arith in
+    rw e at (l .inv .3)
 
 pub rest-free-spec : {M : Type 1} → statement M
 rest-free-spec =
@@ -63,14 +44,9 @@ rest-free-spec =
     (tie.spec
     Inv-loop
     μ-loop
-    loop-holds
-    sub-loop
-    add-wide
-    array-read-wide
-    wide-requires
-    sub-lack
-    add-lack
-    add-t
-    loop-less
+    (λ c. (omega arith, omega arith, omega arith, free-none _ _))
+    (λ c. search needs)
+    (λ c. search needs)
+    (λ c. search needs)
     loop-again
     returns)

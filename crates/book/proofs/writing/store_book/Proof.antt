@@ -24,52 +24,31 @@ Inv-loop head words out₀ k₀ out k =
 abbrev μ-loop : tie.MeasureT-loop
 μ-loop head words out₀ k₀ out k = blocks editionOne (head .n) - k
 
-store-head-requires : tie.Need-store-head-requires Inv-loop μ-loop
-store-head-requires c κs = search needs
-
-loop-holds : tie.Need-loop-holds Inv-loop μ-loop
-loop-holds c = (omega arith, refl, λ d h. book-begun editionOne _ d _ h)
-
-cast-row-blocks : tie.Need-cast-row-blocks Inv-loop μ-loop
-cast-row-blocks c = search needs
-
-row-blocks-requires : tie.Need-row-blocks-requires Inv-loop μ-loop
-row-blocks-requires c κs = search needs
-
-store-rows-requires : tie.Need-store-rows-requires Inv-loop μ-loop
-store-rows-requires c κs = search needs
-
-add-k : tie.Need-add-k Inv-loop μ-loop
-add-k c = search needs
-
-loop-less : tie.Need-loop-less Inv-loop μ-loop
-loop-less c = search needs
-
 loop-again : tie.Need-loop-again Inv-loop μ-loop
 loop-again c =
     let l = c .before .before .before .before .before .before .before .loop in
     let a = c .before .before .before .before .before .before .before .before .before .before .before .before .before .before .args in
     let x = said (a .head) (a .words .now) in
     let block = c .before .before .store-rows .ensures (a .head) in (
-      omega (arith, c .before .before .before .before .before .row-blocks .ensures),
+      omega arith,
       ap length block ∙ stored-length (512 * (l .k + 1)) 512 (sealed editionOne x (l .k + 1)) (l .out) ∙ l .inv .1,
       λ d h. book-grown editionOne x d (l .k) _ _ (l .inv .2 d h) block,
     )
 
 same-length : tie.Need-same-length Inv-loop μ-loop
 same-length c =
-    let a = c .before .before .before .before .before .before .before .before .before .before .args in
+    let a = c .before .before .before .before .before .before .before .before .before .args in
     let x = said (a .head) (a .words .now) in
-    c .before .before .before .loop .inv .1 ∙ ap length (c .before .before .before .before .before .before .store-head .ensures (a .words .now)) ∙ stored-length 0 512 (sealed editionOne x 0) (a .out .now)
+    c .before .before .loop .inv .1 ∙ ap length (c .before .before .before .before .before .store-head .ensures (a .words .now)) ∙ stored-length 0 512 (sealed editionOne x 0) (a .out .now)
 
 returns : tie.Need-returns Inv-loop μ-loop
 returns c =
-    let l = c .before .before .before .loop in
-    let s = c .before .before .before .before .before .before .before .before .before .before in
+    let l = c .before .before .loop in
+    let s = c .before .before .before .before .before .before .before .before .before in
     let a = s .args in
     let x = said (a .head) (a .words .now) in
-    let e : 1 + l .k ≡ blocks editionOne (a .head .n) = omega (arith, c .before .row-blocks .ensures) in
-    l .inv .2 (a .out .now) (c .before .before .before .before .before .before .store-head .ensures (a .words .now))
+    let e : 1 + l .k ≡ blocks editionOne (a .head .n) = omega arith in
+    l .inv .2 (a .out .now) (c .before .before .before .before .before .store-head .ensures (a .words .now))
     ∙ ap (λ (n : ℕ). stored 0 (512 * n) (at editionOne x) (a .out .now)) e ∙ book-ended editionOne x (a .out .now) (s .pre .2)
 
 pub store-book-spec : {M : Type 1} → statement M
@@ -78,13 +57,14 @@ store-book-spec =
     (tie.spec
     Inv-loop
     μ-loop
-    store-head-requires
-    loop-holds
-    cast-row-blocks
-    row-blocks-requires
-    store-rows-requires
-    add-k
-    loop-less
+    (λ c κs. search needs)
+    (λ c. (omega arith, refl, λ d h. book-begun editionOne _ d _ h))
+    (λ c. search needs)
+    (λ c. search needs)
+    (λ c. search needs)
+    (λ c κs. search needs)
+    (λ c. search needs)
+    (λ c. search needs)
     loop-again
     same-length
     returns)
