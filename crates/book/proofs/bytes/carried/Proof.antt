@@ -12,17 +12,8 @@ returns : tie.Need-returns
 unfolding carried
 returns c = (rw (c .if1 .taken) refl, omega arith)
 
-sub-result : tie.Need-sub-result
-sub-result c = search needs
-
-add-result : tie.Need-add-result
-add-result c = search needs
-
-cast-result : tie.Need-cast-result
-cast-result c = search needs
-
 returns-2 : tie.Need-returns-2
 returns-2 c = (sym (carried-some _ (omega arith)), omega arith)
 
 pub carried-spec : {M : Type 1} → statement M
-carried-spec = tie.close (tie.spec returns sub-result add-result cast-result returns-2)
+carried-spec = tie.close (tie.spec returns (λ c. search needs) (λ c. search needs) (λ c. search needs) returns-2)

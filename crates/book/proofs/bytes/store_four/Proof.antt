@@ -10,17 +10,8 @@ use borrow.Author.Needs.{needs}
 use Rattle.book.proofs.bytes.store_four.Statement.{statement}
 use Rattle.book.proofs.bytes.store_four.Tie as tie
 
-slice-write-bytes : tie.Need-slice-write-bytes
-slice-write-bytes c = search needs
-
-add-bytes : tie.Need-add-bytes
-add-bytes c = search needs
-
 slice-write-bytes-2 : tie.Need-slice-write-bytes-2
 slice-write-bytes-2 c = let a = c .args in omega (arith, length-set (a .bytes .now) (a .at) (a .a))
-
-add-bytes-2 : tie.Need-add-bytes-2
-add-bytes-2 c = search needs
 
 slice-write-bytes-3 : tie.Need-slice-write-bytes-3
 slice-write-bytes-3 c =
@@ -28,18 +19,12 @@ slice-write-bytes-3 c =
     let one = set (a .bytes .now) (a .at) (a .a) in
     omega (arith, length-set (a .bytes .now) (a .at) (a .a), length-set one (a .at + 1) (a .b))
 
-add-bytes-3 : tie.Need-add-bytes-3
-add-bytes-3 c = search needs
-
 slice-write-bytes-4 : tie.Need-slice-write-bytes-4
 slice-write-bytes-4 c =
     let a = c .args in
     let one = set (a .bytes .now) (a .at) (a .a) in
     let two = set one (a .at + 1) (a .b) in
     omega (arith, length-set (a .bytes .now) (a .at) (a .a), length-set one (a .at + 1) (a .b), length-set two (a .at + 2) (a .c))
-
-same-length : tie.Need-same-length
-same-length c = search needs
 
 returns : tie.Need-returns
 unfolding stored
@@ -49,12 +34,12 @@ pub store-four-spec : {M : Type 1} → statement M
 store-four-spec =
     tie.close
     (tie.spec
-    slice-write-bytes
-    add-bytes
+    (λ c. search needs)
+    (λ c. search needs)
     slice-write-bytes-2
-    add-bytes-2
+    (λ c. search needs)
     slice-write-bytes-3
-    add-bytes-3
+    (λ c. search needs)
     slice-write-bytes-4
-    same-length
+    (λ c. search needs)
     returns)

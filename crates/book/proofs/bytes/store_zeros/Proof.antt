@@ -21,18 +21,6 @@ loop-holds : tie.Need-loop-holds Inv-loop μ-loop
 unfolding stored
 loop-holds c = (omega arith, refl, refl)
 
-add-bytes : tie.Need-add-bytes Inv-loop μ-loop
-add-bytes c = search needs
-
-slice-write-bytes : tie.Need-slice-write-bytes Inv-loop μ-loop
-slice-write-bytes c = search needs
-
-add-t : tie.Need-add-t Inv-loop μ-loop
-add-t c = search needs
-
-loop-less : tie.Need-loop-less Inv-loop μ-loop
-loop-less c = search needs
-
 loop-again : tie.Need-loop-again Inv-loop μ-loop
 loop-again c =
     let l = c .before .loop in
@@ -56,10 +44,10 @@ store-zeros-spec =
     Inv-loop
     μ-loop
     loop-holds
-    add-bytes
-    slice-write-bytes
-    add-t
-    loop-less
+    (λ c. search needs)
+    (λ c. search needs)
+    (λ c. search needs)
+    (λ c. search needs)
     loop-again
     same-length
     returns)

@@ -21,9 +21,6 @@ Inv-loop book n k₀ k = (1 + k ≤ blocks editionOne n) × (all (k + 1) (zeroBl
 abbrev μ-loop : tie.MeasureT-loop
 μ-loop book n k₀ k = blocks editionOne n - k
 
-blank-requires : tie.Need-blank-requires Inv-loop μ-loop
-blank-requires c κs = search needs
-
 returns : tie.Need-returns Inv-loop μ-loop
 unfolding zeros
 returns c =
@@ -36,12 +33,6 @@ loop-holds c =
     let a = c .before .before .before .args in
     (omega arith, head-blank (a .n) (a .book .now) ∙ sym (c .before .blank .ensures) ∙ not-false _ (c .if1 .left))
 
-mul-loop : tie.Need-mul-loop Inv-loop μ-loop
-mul-loop c = search needs
-
-rows-blank-requires : tie.Need-rows-blank-requires Inv-loop μ-loop
-rows-blank-requires c κs = search needs
-
 returns-2 : tie.Need-returns-2 Inv-loop μ-loop
 unfolding zeros
 returns-2 c =
@@ -51,12 +42,6 @@ returns-2 c =
     sym
     (all-fails (length (s .args .book .now) / 512) (zeroBlock editionOne (s .args .n) (s .args .book .now)) (l .k + 1)
     (omega (arith, s .pre .1)) bad)
-
-add-k : tie.Need-add-k Inv-loop μ-loop
-add-k c = search needs
-
-loop-less : tie.Need-loop-less Inv-loop μ-loop
-loop-less c = search needs
 
 loop-again : tie.Need-loop-again Inv-loop μ-loop
 loop-again c =
@@ -79,13 +64,13 @@ all-zero-spec =
     (tie.spec
     Inv-loop
     μ-loop
-    blank-requires
+    (λ c κs. search needs)
     returns
     loop-holds
-    mul-loop
-    rows-blank-requires
+    (λ c. search needs)
+    (λ c κs. search needs)
     returns-2
-    add-k
-    loop-less
+    (λ c. search needs)
+    (λ c. search needs)
     loop-again
     returns-3)

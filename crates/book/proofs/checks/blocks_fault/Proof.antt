@@ -19,9 +19,6 @@ Inv-loop book n k₀ k = (k ≤ n) × (n ≤ 4) × (faultOf (blockChecks book) �
 abbrev μ-loop : tie.MeasureT-loop
 μ-loop book n k₀ k = n - k
 
-whole-requires : tie.Need-whole-requires Inv-loop μ-loop
-whole-requires c κs = search needs
-
 returns : tie.Need-returns Inv-loop μ-loop
 unfolding blockChecks
 returns c = rw (sym (c .before .whole .ensures) ∙ not-true _ (c .if1 .taken)) refl
@@ -33,17 +30,11 @@ loop-holds c =
     let good = sym (c .before .whole .ensures) ∙ not-false _ (c .if1 .left) in
     (omega arith, whole-blocks b good .2, rw (good, sub-zero) refl)
 
-numbered-requires : tie.Need-numbered-requires Inv-loop μ-loop
-numbered-requires c κs = search needs
-
 returns-2 : tie.Need-returns-2 Inv-loop μ-loop
 returns-2 c =
     let b = c .before .before .before .before .before .before .before .args .book .now in
     let l = c .before .before .before .loop in
     sym (l .inv .2 ∙ bad-number b (length b / 512) (l .k) (omega arith) (sym (c .before .numbered .ensures) ∙ not-true _ (c .if2 .taken)))
-
-checked-requires : tie.Need-checked-requires Inv-loop μ-loop
-checked-requires c κs = search needs
 
 returns-3 : tie.Need-returns-3 Inv-loop μ-loop
 returns-3 c =
@@ -53,12 +44,6 @@ returns-3 c =
     (l .inv .2
     ∙ bad-check b (length b / 512) (l .k) (omega arith) (sym (c .before .before .before .numbered .ensures) ∙ not-false _ (c .before .before .if2 .left))
     (sym (c .before .checked .ensures) ∙ not-true _ (c .if3 .taken)))
-
-add-k : tie.Need-add-k Inv-loop μ-loop
-add-k c = search needs
-
-loop-less : tie.Need-loop-less Inv-loop μ-loop
-loop-less c = search needs
 
 loop-again : tie.Need-loop-again Inv-loop μ-loop
 loop-again c =
@@ -84,14 +69,14 @@ blocks-fault-spec =
     (tie.spec
     Inv-loop
     μ-loop
-    whole-requires
+    (λ c κs. search needs)
     returns
     loop-holds
-    numbered-requires
+    (λ c κs. search needs)
     returns-2
-    checked-requires
+    (λ c κs. search needs)
     returns-3
-    add-k
-    loop-less
+    (λ c. search needs)
+    (λ c. search needs)
     loop-again
     returns-4)

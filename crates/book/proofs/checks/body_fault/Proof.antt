@@ -21,26 +21,17 @@ listed c =
     let a = c .before .args in
     body-checks (a .book .now) (a .n) (a .room) (λ i. omega (arith, c .shared-slice-known .given i)) (c .before .pre .0) (c .before .pre .1)
 
-fields-fit-requires : tie.Need-fields-fit-requires
-fields-fit-requires c κs = search needs
-
 returns : tie.Need-returns
 returns c =
     let d = c .before .before in
     let fit = sym (c .before .fields-fit .ensures) ∙ not-true _ (c .if1 .taken) in
     sym (listed d ∙ rw fit refl)
 
-lowest-bad-requires : tie.Need-lowest-bad-requires
-lowest-bad-requires c κs = search needs
-
 returns-2 : tie.Need-returns-2
 returns-2 c =
     let d = c .before .before .before .before in
     let fit = sym (c .before .before .before .fields-fit .ensures) ∙ not-false _ (c .before .before .if1 .left) in
     sym (listed d ∙ rw (fit, lt-leb _ _ (rw (c .before .lowest-bad .ensures) at (c .if2 .taken))) (ap (At 3) (sym (c .before .lowest-bad .ensures))))
-
-mul-if3 : tie.Need-mul-if3
-mul-if3 c = search needs
 
 returns-3 : tie.Need-returns-3
 returns-3 c =
@@ -58,10 +49,10 @@ pub body-fault-spec : {M : Type 1} → statement M
 body-fault-spec =
     tie.close
     (tie.spec
-    fields-fit-requires
+    (λ c κs. search needs)
     returns
-    lowest-bad-requires
+    (λ c κs. search needs)
     returns-2
-    mul-if3
+    (λ c. search needs)
     returns-3
     returns-4)

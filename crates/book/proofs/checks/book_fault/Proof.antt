@@ -19,12 +19,6 @@ book s = s .args .book .now
 abbrev room : tie.Start → ℕ
 room s = s .args .room
 
-blocks-fault-requires : tie.Need-blocks-fault-requires
-blocks-fault-requires c κs = search needs
-
-enum-known-number : tie.Need-enum-known-number
-enum-known-number c = search needs
-
 returns : tie.Need-returns
 returns c =
     let s = c .before .before .before .before .before in
@@ -45,9 +39,6 @@ sealed c =
 head-fault-requires : tie.Need-head-fault-requires
 head-fault-requires c κs = sealed c .some
 
-enum-known-number-2 : tie.Need-enum-known-number-2
-enum-known-number-2 c = search needs
-
 returns-2 : tie.Need-returns-2
 returns-2 c =
     let known = c .before .before .before .before in
@@ -55,9 +46,6 @@ returns-2 c =
     sym
     (head-fault (book s) (room s) _ _ (outer-clear known)
     (sym (c .before .before .before .head-fault .ensures) ∙ c .before .number2 .given .1))
-
-enum-told-2 : tie.Need-enum-told-2
-enum-told-2 c = search needs
 
 -- where the head is right too
 head-clear : (c : tie.After-enum-told2)
@@ -89,14 +77,14 @@ pub book-fault-spec : {M : Type 1} → statement M
 book-fault-spec =
     tie.close
     (tie.spec
-    blocks-fault-requires
-    enum-known-number
+    (λ c κs. search needs)
+    (λ c. search needs)
     returns
     enum-told
     head-fault-requires
-    enum-known-number-2
+    (λ c. search needs)
     returns-2
-    enum-told-2
+    (λ c. search needs)
     shared-slice-read-body-fault
     cast-body-fault
     body-fault-requires

@@ -9,24 +9,6 @@ use borrow.Author.Needs.{needs}
 use Rattle.book.proofs.checks.checked.Statement.{statement}
 use Rattle.book.proofs.checks.checked.Tie as tie
 
-mul-read-u16 : tie.Need-mul-read-u16
-mul-read-u16 c = search needs
-
-add-read-u16 : tie.Need-add-read-u16
-add-read-u16 c = search needs
-
-read-u16-requires : tie.Need-read-u16-requires
-read-u16-requires c κs = search needs
-
-mul-block-sum : tie.Need-mul-block-sum
-mul-block-sum c = search needs
-
-block-sum-requires : tie.Need-block-sum-requires
-block-sum-requires c κs = search needs
-
-sub-result : tie.Need-sub-result
-sub-result c = search needs
-
 returns : tie.Need-returns
 unfolding checked checkOf
 returns c =
@@ -39,10 +21,10 @@ pub checked-spec : {M : Type 1} → statement M
 checked-spec =
     tie.close
     (tie.spec
-    mul-read-u16
-    add-read-u16
-    read-u16-requires
-    mul-block-sum
-    block-sum-requires
-    sub-result
+    (λ c. search needs)
+    (λ c. search needs)
+    (λ c κs. search needs)
+    (λ c. search needs)
+    (λ c κs. search needs)
+    (λ c. search needs)
     returns)

@@ -16,15 +16,9 @@ use borrow.Author.Needs.{needs}
 use Rattle.book.proofs.checks.head_fault.Statement.{statement}
 use Rattle.book.proofs.checks.head_fault.Tie as tie
 
-shared-slice-read-if1 : tie.Need-shared-slice-read-if1
-shared-slice-read-if1 c = search needs
-
 returns : tie.Need-returns
 unfolding headChecks content
 returns c = rw (ne-eqb (getD (c .before .before .before .args .book .now) 2 0) 1 (c .if1 .taken)) refl
-
-shared-slice-read-m : tie.Need-shared-slice-read-m
-shared-slice-read-m c = search needs
 
 returns-2 : tie.Need-returns-2
 unfolding headChecks content
@@ -34,9 +28,6 @@ returns-2 c =
     let cores = and-fails (leb 1 m) (leb m 32)
     (⊎-elim (λ w. inl (lt-leb _ _ (w .taken))) (λ w. inr (lt-leb _ _ (ltb-true 32 m (w .1 .taken)))) (c .if2 .came)) in
     rw (eq-eqb (getD b 2 0) 1 (c .before .before .if1 .left), cores) refl
-
-shared-slice-read-n : tie.Need-shared-slice-read-n
-shared-slice-read-n c = search needs
 
 cast-n : tie.Need-cast-n
 cast-n c = omega (arith, c .shared-slice-known4 .given 4)
@@ -52,9 +43,6 @@ unfolding headChecks content
 returns-3 c =
     let b = c .before .before .before .before .before .before .before .before .args .book .now in
     rw (eq-eqb (getD b 2 0) 1 (c .before .before .before .before .before .if1 .left), cored (c .before .before), lt-leb (getD b 4 0) 96 (c .if4 .taken)) refl
-
-size-requires : tie.Need-size-requires
-size-requires c κs = search needs
 
 returns-4 : tie.Need-returns-4
 unfolding headChecks content
@@ -84,13 +72,13 @@ pub head-fault-spec : {M : Type 1} → statement M
 head-fault-spec =
     tie.close
     (tie.spec
-    shared-slice-read-if1
+    (λ c. search needs)
     returns
-    shared-slice-read-m
+    (λ c. search needs)
     returns-2
-    shared-slice-read-n
+    (λ c. search needs)
     cast-n
     returns-3
-    size-requires
+    (λ c κs. search needs)
     returns-4
     returns-5)

@@ -23,14 +23,8 @@ abbrev μ-loop : tie.MeasureT-loop
 loop-holds : tie.Need-loop-holds Inv-loop μ-loop
 loop-holds c = rw sub-zero refl
 
-row-in-requires : tie.Need-row-in-requires Inv-loop μ-loop
-row-in-requires c κs = search needs
-
 enum-told : tie.Need-enum-told Inv-loop μ-loop
 enum-told c = search needs
-
-enum-told-2 : tie.Need-enum-told-2 Inv-loop μ-loop
-enum-told-2 c = search needs
 
 returns : tie.Need-returns Inv-loop μ-loop
 returns c =
@@ -38,12 +32,6 @@ returns c =
     let d = l .before .before in
     let fault = read-fault _ _ (sym (c .before .before .row-in .ensures) ∙ c .enum-told2 .given .1) in
     sym (first-taken _ _ _ (c .before .before .before .loop-test .taken) fault) ∙ l .loop .inv ∙ lowest-bad (d .args .book .now) (d .args .n) (d .pre .count)
-
-add-i : tie.Need-add-i Inv-loop μ-loop
-add-i c = search needs
-
-loop-less : tie.Need-loop-less Inv-loop μ-loop
-loop-less c = search needs
 
 loop-again : tie.Need-loop-again Inv-loop μ-loop
 loop-again c =
@@ -63,11 +51,11 @@ lowest-bad-spec =
     Inv-loop
     μ-loop
     loop-holds
-    row-in-requires
+    (λ c κs. search needs)
     enum-told
-    enum-told-2
+    (λ c. search needs)
     returns
-    add-i
-    loop-less
+    (λ c. search needs)
+    (λ c. search needs)
     loop-again
     returns-2)

@@ -13,15 +13,6 @@ use borrow.Author.Needs.{needs}
 use Rattle.book.proofs.checks.row_in.Statement.{statement}
 use Rattle.book.proofs.checks.row_in.Tie as tie
 
-row-words-requires : tie.Need-row-words-requires
-row-words-requires c κs = search needs
-
-slice-aggregate-read-row : tie.Need-slice-aggregate-read-row
-slice-aggregate-read-row c = search needs
-
-read-row-requires : tie.Need-read-row-requires
-read-row-requires c κs = search needs
-
 returns : tie.Need-returns
 returns c =
     let s = c .before .before .before .before in
@@ -45,4 +36,4 @@ returns c =
 
 pub row-in-spec : {M : Type 1} → statement M
 row-in-spec =
-    tie.close (tie.spec row-words-requires slice-aggregate-read-row read-row-requires returns)
+    tie.close (tie.spec (λ c κs. search needs) (λ c. search needs) (λ c κs. search needs) returns)

@@ -11,33 +11,6 @@ use borrow.Author.Needs.{needs}
 use Rattle.book.proofs.checks.rows_blank.Statement.{statement}
 use Rattle.book.proofs.checks.rows_blank.Tie as tie
 
-words-in-requires : tie.Need-words-in-requires
-words-in-requires c κs = search needs
-
-add-blank : tie.Need-add-blank
-add-blank c = search needs
-
-mul-blank : tie.Need-mul-blank
-mul-blank c = search needs
-
-add-blank-2 : tie.Need-add-blank-2
-add-blank-2 c = search needs
-
-mul-blank-2 : tie.Need-mul-blank-2
-mul-blank-2 c = search needs
-
-add-blank-3 : tie.Need-add-blank-3
-add-blank-3 c = search needs
-
-mul-blank-3 : tie.Need-mul-blank-3
-mul-blank-3 c = search needs
-
-sub-blank : tie.Need-sub-blank
-sub-blank c = search needs
-
-blank-requires : tie.Need-blank-requires
-blank-requires c κs = search needs
-
 returns : tie.Need-returns
 returns c =
     let a = c .before .before .before .args in
@@ -51,13 +24,13 @@ pub rows-blank-spec : {M : Type 1} → statement M
 rows-blank-spec =
     tie.close
     (tie.spec
-    words-in-requires
-    add-blank
-    mul-blank
-    add-blank-2
-    mul-blank-2
-    add-blank-3
-    mul-blank-3
-    sub-blank
-    blank-requires
+    (λ c κs. search needs)
+    (λ c. search needs)
+    (λ c. search needs)
+    (λ c. search needs)
+    (λ c. search needs)
+    (λ c. search needs)
+    (λ c. search needs)
+    (λ c. search needs)
+    (λ c κs. search needs)
     returns)

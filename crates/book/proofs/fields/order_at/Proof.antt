@@ -20,21 +20,6 @@ abbrev μ-loop : tie.MeasureT-loop
 loop-holds : tie.Need-loop-holds Inv-loop μ-loop
 loop-holds c = (omega arith, refl)
 
-add-order : tie.Need-add-order Inv-loop μ-loop
-add-order c = search needs
-
-shared-slice-read-order : tie.Need-shared-slice-read-order Inv-loop μ-loop
-shared-slice-read-order c = search needs
-
-array-write-order : tie.Need-array-write-order Inv-loop μ-loop
-array-write-order c = search needs
-
-add-i : tie.Need-add-i Inv-loop μ-loop
-add-i c = search needs
-
-loop-less : tie.Need-loop-less Inv-loop μ-loop
-loop-less c = search needs
-
 loop-again : tie.Need-loop-again Inv-loop μ-loop
 loop-again c =
     let f : ℕ → ℕ = λ j. getD (c .before .before .before .args .book .now) j 0 in
@@ -55,10 +40,10 @@ order-at-spec =
     Inv-loop
     μ-loop
     loop-holds
-    add-order
-    shared-slice-read-order
-    array-write-order
-    add-i
-    loop-less
+    (λ c. search needs)
+    (λ c. search needs)
+    (λ c. search needs)
+    (λ c. search needs)
+    (λ c. search needs)
     loop-again
     returns)

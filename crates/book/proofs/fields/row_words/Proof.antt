@@ -11,36 +11,6 @@ use borrow.Author.Needs.{needs}
 use Rattle.book.proofs.fields.row_words.Statement.{statement}
 use Rattle.book.proofs.fields.row_words.Tie as tie
 
-add-at : tie.Need-add-at
-add-at c = search needs
-
-mul-at : tie.Need-mul-at
-mul-at c = search needs
-
-add-at-2 : tie.Need-add-at-2
-add-at-2 c = search needs
-
-mul-at-2 : tie.Need-mul-at-2
-mul-at-2 c = search needs
-
-add-at-3 : tie.Need-add-at-3
-add-at-3 c = search needs
-
-read-u32-requires : tie.Need-read-u32-requires
-read-u32-requires c κs = search needs
-
-add-read-u32 : tie.Need-add-read-u32
-add-read-u32 c = search needs
-
-read-u32-requires-2 : tie.Need-read-u32-requires-2
-read-u32-requires-2 c κs = search needs
-
-add-read-u32-2 : tie.Need-add-read-u32-2
-add-read-u32-2 c = search needs
-
-read-u32-requires-3 : tie.Need-read-u32-requires-3
-read-u32-requires-3 c κs = search needs
-
 returns : tie.Need-returns
 returns c =
     let a = c .before .before .before .before .args in
@@ -55,14 +25,14 @@ pub row-words-spec : {M : Type 1} → statement M
 row-words-spec =
     tie.close
     (tie.spec
-    add-at
-    mul-at
-    add-at-2
-    mul-at-2
-    add-at-3
-    read-u32-requires
-    add-read-u32
-    read-u32-requires-2
-    add-read-u32-2
-    read-u32-requires-3
+    (λ c. search needs)
+    (λ c. search needs)
+    (λ c. search needs)
+    (λ c. search needs)
+    (λ c. search needs)
+    (λ c κs. search needs)
+    (λ c. search needs)
+    (λ c κs. search needs)
+    (λ c. search needs)
+    (λ c κs. search needs)
     returns)

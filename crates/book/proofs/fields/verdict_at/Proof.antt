@@ -6,21 +6,12 @@ use borrow.Author.Needs.{needs}
 use Rattle.book.proofs.fields.verdict_at.Statement.{statement}
 use Rattle.book.proofs.fields.verdict_at.Tie as tie
 
-shared-slice-read-t3 : tie.Need-shared-slice-read-t3
-shared-slice-read-t3 c = search needs
-
 cast-t4 : tie.Need-cast-t4
 cast-t4 c = omega (arith, c .shared-slice-known2 .given 5)
-
-order-at-requires : tie.Need-order-at-requires
-order-at-requires c κs = search needs
-
-group-at-requires : tie.Need-group-at-requires
-group-at-requires c κs = search needs
 
 returns : tie.Need-returns
 returns c = rw (c .before .order-at .ensures, c .group-at .ensures) refl
 
 pub verdict-at-spec : {M : Type 1} → statement M
 verdict-at-spec =
-    tie.close (tie.spec shared-slice-read-t3 cast-t4 order-at-requires group-at-requires returns)
+    tie.close (tie.spec (λ c. search needs) cast-t4 (λ c κs. search needs) (λ c κs. search needs) returns)

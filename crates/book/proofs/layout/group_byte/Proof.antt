@@ -10,14 +10,8 @@ use borrow.Author.Needs.{needs}
 use Rattle.book.proofs.layout.group_byte.Statement.{statement}
 use Rattle.book.proofs.layout.group_byte.Tie as tie
 
-byte-of-requires : tie.Need-byte-of-requires
-byte-of-requires c κs = search needs
-
 returns : tie.Need-returns
 returns c = let a = c .before .before .args in c .byte-of .ensures ∙ sym (byte-low 8 (a .group .high) (a .group .low) (a .j) (omega arith))
-
-byte-of-requires-2 : tie.Need-byte-of-requires-2
-byte-of-requires-2 c κs = search needs
 
 returns-2 : tie.Need-returns-2
 returns-2 c =
@@ -26,4 +20,4 @@ returns-2 c =
     c .byte-of2 .ensures ∙ sym (byte-high 8 (a .group .high) (a .group .low) (a .j - 8) (search needs)) ∙ ap (λ (i : ℕ). byte i (word (a .group))) e
 
 pub group-byte-spec : {M : Type 1} → statement M
-group-byte-spec = tie.close (tie.spec byte-of-requires returns byte-of-requires-2 returns-2)
+group-byte-spec = tie.close (tie.spec (λ c κs. search needs) returns (λ c κs. search needs) returns-2)

@@ -21,15 +21,6 @@ book s = s .args .book .now
 abbrev words : tie.Start → List ℕ
 words s = s .args .words .now
 
-book-fault-requires : tie.Need-book-fault-requires
-book-fault-requires c κs = search needs
-
-enum-known-number : tie.Need-enum-known-number
-enum-known-number c = search needs
-
-refused-requires : tie.Need-refused-requires
-refused-requires c κs = search needs
-
 returns : tie.Need-returns
 returns c =
     let s = c .before .before .before .before .before .before .before in
@@ -67,9 +58,6 @@ cast-t14 c = omega (arith, c .shared-slice-known3 .given 3)
 verdict-at-requires : tie.Need-verdict-at-requires
 verdict-at-requires c κs = good (c .before .before .before .before .before .before) .sealed .some
 
-same-length : tie.Need-same-length
-same-length c = search needs
-
 returns-2 : tie.Need-returns-2
 unfolding content
 returns-2 c =
@@ -83,9 +71,9 @@ pub read-spec : {M : Type 1} → statement M
 read-spec =
     tie.close
     (tie.spec
-    book-fault-requires
-    enum-known-number
-    refused-requires
+    (λ c κs. search needs)
+    (λ c. search needs)
+    (λ c κs. search needs)
     returns
     enum-told
     shared-slice-read-n
@@ -94,5 +82,5 @@ read-spec =
     shared-slice-read-t9
     cast-t14
     verdict-at-requires
-    same-length
+    (λ c. search needs)
     returns-2)

@@ -24,61 +24,16 @@ abbrev μ-loop : tie.MeasureT-loop
 loop-holds : tie.Need-loop-holds Inv-loop μ-loop
 loop-holds c = (omega arith, refl, refl)
 
-row-words-requires : tie.Need-row-words-requires Inv-loop μ-loop
-row-words-requires c κs = search needs
-
-array-read-words : tie.Need-array-read-words Inv-loop μ-loop
-array-read-words c = search needs
-
-mul-words : tie.Need-mul-words Inv-loop μ-loop
-mul-words c = search needs
-
-mul-words-2 : tie.Need-mul-words-2 Inv-loop μ-loop
-mul-words-2 c = search needs
-
-slice-write-words : tie.Need-slice-write-words Inv-loop μ-loop
-slice-write-words c = search needs
-
-array-read-words-2 : tie.Need-array-read-words-2 Inv-loop μ-loop
-array-read-words-2 c = search needs
-
-mul-words-3 : tie.Need-mul-words-3 Inv-loop μ-loop
-mul-words-3 c = search needs
-
-add-words : tie.Need-add-words Inv-loop μ-loop
-add-words c = search needs
-
-mul-words-4 : tie.Need-mul-words-4 Inv-loop μ-loop
-mul-words-4 c = search needs
-
 slice-write-words-2 : tie.Need-slice-write-words-2 Inv-loop μ-loop
 slice-write-words-2 c =
     let l = c .before .before .loop in
     omega (arith, length-set (l .words) (3 * l .i) (getD (c .row-words .result) 0 0))
-
-array-read-words-3 : tie.Need-array-read-words-3 Inv-loop μ-loop
-array-read-words-3 c = search needs
-
-mul-words-5 : tie.Need-mul-words-5 Inv-loop μ-loop
-mul-words-5 c = search needs
-
-add-words-2 : tie.Need-add-words-2 Inv-loop μ-loop
-add-words-2 c = search needs
-
-mul-words-6 : tie.Need-mul-words-6 Inv-loop μ-loop
-mul-words-6 c = search needs
 
 slice-write-words-3 : tie.Need-slice-write-words-3 Inv-loop μ-loop
 slice-write-words-3 c =
     let l = c .before .before .loop in
     let one = set (l .words) (3 * l .i) (getD (c .row-words .result) 0 0) in
     omega (arith, length-set (l .words) (3 * l .i) (getD (c .row-words .result) 0 0), length-set one (3 * l .i + 1) (getD (c .row-words .result) 1 0))
-
-add-i : tie.Need-add-i Inv-loop μ-loop
-add-i c = search needs
-
-loop-less : tie.Need-loop-less Inv-loop μ-loop
-loop-less c = search needs
 
 loop-again : tie.Need-loop-again Inv-loop μ-loop
 loop-again c =
@@ -122,23 +77,23 @@ store-words-spec =
     Inv-loop
     μ-loop
     loop-holds
-    row-words-requires
-    array-read-words
-    mul-words
-    mul-words-2
-    slice-write-words
-    array-read-words-2
-    mul-words-3
-    add-words
-    mul-words-4
+    (λ c κs. search needs)
+    (λ c. search needs)
+    (λ c. search needs)
+    (λ c. search needs)
+    (λ c. search needs)
+    (λ c. search needs)
+    (λ c. search needs)
+    (λ c. search needs)
+    (λ c. search needs)
     slice-write-words-2
-    array-read-words-3
-    mul-words-5
-    add-words-2
-    mul-words-6
+    (λ c. search needs)
+    (λ c. search needs)
+    (λ c. search needs)
+    (λ c. search needs)
     slice-write-words-3
-    add-i
-    loop-less
+    (λ c. search needs)
+    (λ c. search needs)
     loop-again
     same-length
     returns)

@@ -11,37 +11,10 @@ use borrow.Author.Needs.{needs}
 use Rattle.book.proofs.storing.store_check.Statement.{statement}
 use Rattle.book.proofs.storing.store_check.Tie as tie
 
-block-sum-requires : tie.Need-block-sum-requires
-block-sum-requires c κs = search needs
-
-sub-check : tie.Need-sub-check
-sub-check c = search needs
-
-cast-check : tie.Need-cast-check
-cast-check c = search needs
-
-byte-of-requires : tie.Need-byte-of-requires
-byte-of-requires c κs = search needs
-
-add-out : tie.Need-add-out
-add-out c = search needs
-
-slice-write-out : tie.Need-slice-write-out
-slice-write-out c = search needs
-
-byte-of-requires-2 : tie.Need-byte-of-requires-2
-byte-of-requires-2 c κs = search needs
-
-add-out-2 : tie.Need-add-out-2
-add-out-2 c = search needs
-
 slice-write-out-2 : tie.Need-slice-write-out-2
 slice-write-out-2 c =
     let a = c .before .before .before .before .before .args in
     omega (arith, length-set (a .out .now) (a .at + 510) (c .before .byte-of .result))
-
-same-length : tie.Need-same-length
-same-length c = search needs
 
 returns : tie.Need-returns
 unfolding stored checkOf
@@ -54,14 +27,14 @@ pub store-check-spec : {M : Type 1} → statement M
 store-check-spec =
     tie.close
     (tie.spec
-    block-sum-requires
-    sub-check
-    cast-check
-    byte-of-requires
-    add-out
-    slice-write-out
-    byte-of-requires-2
-    add-out-2
+    (λ c κs. search needs)
+    (λ c. search needs)
+    (λ c. search needs)
+    (λ c κs. search needs)
+    (λ c. search needs)
+    (λ c. search needs)
+    (λ c κs. search needs)
+    (λ c. search needs)
     slice-write-out-2
-    same-length
+    (λ c. search needs)
     returns)

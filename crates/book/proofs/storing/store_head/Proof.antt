@@ -9,27 +9,6 @@ use borrow.Author.Needs.{needs}
 use Rattle.book.proofs.storing.store_head.Statement.{statement}
 use Rattle.book.proofs.storing.store_head.Tie as tie
 
-store-number-requires : tie.Need-store-number-requires
-store-number-requires c κs = search needs
-
-store-four-requires : tie.Need-store-four-requires
-store-four-requires c κs = search needs
-
-store-order-requires : tie.Need-store-order-requires
-store-order-requires c κs = search needs
-
-store-group-requires : tie.Need-store-group-requires
-store-group-requires c κs = search needs
-
-store-zeros-requires : tie.Need-store-zeros-requires
-store-zeros-requires c κs = search needs
-
-store-check-requires : tie.Need-store-check-requires
-store-check-requires c κs = search needs
-
-same-length : tie.Need-same-length
-same-length c = search needs
-
 returns : tie.Need-returns
 returns c =
     λ words.
@@ -43,11 +22,11 @@ pub store-head-spec : {M : Type 1} → statement M
 store-head-spec =
     tie.close
     (tie.spec
-    store-number-requires
-    store-four-requires
-    store-order-requires
-    store-group-requires
-    store-zeros-requires
-    store-check-requires
-    same-length
+    (λ c κs. search needs)
+    (λ c κs. search needs)
+    (λ c κs. search needs)
+    (λ c κs. search needs)
+    (λ c κs. search needs)
+    (λ c κs. search needs)
+    (λ c. search needs)
     returns)

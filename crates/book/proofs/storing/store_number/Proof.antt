@@ -10,20 +10,8 @@ use borrow.Author.Needs.{needs}
 use Rattle.book.proofs.storing.store_number.Statement.{statement}
 use Rattle.book.proofs.storing.store_number.Tie as tie
 
-slice-write-out : tie.Need-slice-write-out
-slice-write-out c = search needs
-
-cast-out : tie.Need-cast-out
-cast-out c = search needs
-
-add-out : tie.Need-add-out
-add-out c = search needs
-
 slice-write-out-2 : tie.Need-slice-write-out-2
 slice-write-out-2 c = omega (arith, length-set (c .args .out .now) (c .args .at) 0)
-
-same-length : tie.Need-same-length
-same-length c = search needs
 
 returns : tie.Need-returns
 unfolding stored
@@ -35,4 +23,4 @@ returns c =
 
 pub store-number-spec : {M : Type 1} → statement M
 store-number-spec =
-    tie.close (tie.spec slice-write-out cast-out add-out slice-write-out-2 same-length returns)
+    tie.close (tie.spec (λ c. search needs) (λ c. search needs) (λ c. search needs) slice-write-out-2 (λ c. search needs) returns)

@@ -10,54 +10,6 @@ use borrow.Author.Needs.{needs}
 use Rattle.book.proofs.storing.store_rows.Statement.{statement}
 use Rattle.book.proofs.storing.store_rows.Tie as tie
 
-add-at : tie.Need-add-at
-add-at c = search needs
-
-mul-at : tie.Need-mul-at
-mul-at c = search needs
-
-words-in-requires : tie.Need-words-in-requires
-words-in-requires c κs = search needs
-
-add-store-number : tie.Need-add-store-number
-add-store-number c = search needs
-
-store-number-requires : tie.Need-store-number-requires
-store-number-requires c κs = search needs
-
-add-store-words : tie.Need-add-store-words
-add-store-words c = search needs
-
-mul-store-words : tie.Need-mul-store-words
-mul-store-words c = search needs
-
-store-words-requires : tie.Need-store-words-requires
-store-words-requires c κs = search needs
-
-add-store-zeros : tie.Need-add-store-zeros
-add-store-zeros c = search needs
-
-mul-store-zeros : tie.Need-mul-store-zeros
-mul-store-zeros c = search needs
-
-add-store-zeros-2 : tie.Need-add-store-zeros-2
-add-store-zeros-2 c = search needs
-
-mul-store-zeros-2 : tie.Need-mul-store-zeros-2
-mul-store-zeros-2 c = search needs
-
-sub-store-zeros : tie.Need-sub-store-zeros
-sub-store-zeros c = search needs
-
-store-zeros-requires : tie.Need-store-zeros-requires
-store-zeros-requires c κs = search needs
-
-store-check-requires : tie.Need-store-check-requires
-store-check-requires c κs = search needs
-
-same-length : tie.Need-same-length
-same-length c = search needs
-
 returns : tie.Need-returns
 returns c =
     λ head.
@@ -73,20 +25,20 @@ pub store-rows-spec : {M : Type 1} → statement M
 store-rows-spec =
     tie.close
     (tie.spec
-    add-at
-    mul-at
-    words-in-requires
-    add-store-number
-    store-number-requires
-    add-store-words
-    mul-store-words
-    store-words-requires
-    add-store-zeros
-    mul-store-zeros
-    add-store-zeros-2
-    mul-store-zeros-2
-    sub-store-zeros
-    store-zeros-requires
-    store-check-requires
-    same-length
+    (λ c. search needs)
+    (λ c. search needs)
+    (λ c κs. search needs)
+    (λ c. search needs)
+    (λ c κs. search needs)
+    (λ c. search needs)
+    (λ c. search needs)
+    (λ c κs. search needs)
+    (λ c. search needs)
+    (λ c. search needs)
+    (λ c. search needs)
+    (λ c. search needs)
+    (λ c. search needs)
+    (λ c κs. search needs)
+    (λ c κs. search needs)
+    (λ c. search needs)
     returns)

@@ -25,33 +25,6 @@ loop-holds c =
     let z : 4 * (c .before .before .args .first - c .before .before .args .first) ≡ 0 = omega arith in
     (omega arith, omega arith, refl, rw z refl)
 
-mul-store-u32 : tie.Need-mul-store-u32 Inv-loop μ-loop
-mul-store-u32 c = search needs
-
-add-store-u32 : tie.Need-add-store-u32 Inv-loop μ-loop
-add-store-u32 c = search needs
-
-add-loop : tie.Need-add-loop Inv-loop μ-loop
-add-loop c = search needs
-
-sub-store-u32 : tie.Need-sub-store-u32 Inv-loop μ-loop
-sub-store-u32 c = search needs
-
-mul-store-u32-2 : tie.Need-mul-store-u32-2 Inv-loop μ-loop
-mul-store-u32-2 c = search needs
-
-shared-slice-read-store-u32 : tie.Need-shared-slice-read-store-u32 Inv-loop μ-loop
-shared-slice-read-store-u32 c = search needs
-
-store-u32-requires : tie.Need-store-u32-requires Inv-loop μ-loop
-store-u32-requires c κs = search needs
-
-add-j : tie.Need-add-j Inv-loop μ-loop
-add-j c = search needs
-
-loop-less : tie.Need-loop-less Inv-loop μ-loop
-loop-less c = search needs
-
 loop-again : tie.Need-loop-again Inv-loop μ-loop
 loop-again c =
     let l = c .before .before .before .before .before .before .loop in
@@ -90,15 +63,15 @@ store-words-spec =
     Inv-loop
     μ-loop
     loop-holds
-    add-loop
-    sub-store-u32
-    mul-store-u32
-    add-store-u32
-    mul-store-u32-2
-    shared-slice-read-store-u32
-    store-u32-requires
-    add-j
-    loop-less
+    (λ c. search needs)
+    (λ c. search needs)
+    (λ c. search needs)
+    (λ c. search needs)
+    (λ c. search needs)
+    (λ c. search needs)
+    (λ c κs. search needs)
+    (λ c. search needs)
+    (λ c. search needs)
     loop-again
     same-length
     returns)

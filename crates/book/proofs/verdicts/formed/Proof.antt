@@ -35,13 +35,10 @@ returns-2 : tie.Need-returns-2
 unfolding formed
 returns-2 c = rw (le-leb _ 2 (c .before .before .before .before .before .if1 .left), sym (order (c .before)) ∙ not-true _ (c .if3 .taken)) refl
 
-group-fits-requires : tie.Need-group-fits-requires
-group-fits-requires c κs = search needs
-
 returns-3 : tie.Need-returns-3
 unfolding formed
 returns-3 c = rw (le-leb _ 2 (c .before .before .before .before .before .before .if1 .left), sym (order (c .before .before)) ∙ not-false _ (c .before .if3 .left)) (c .group-fits .ensures)
 
 pub formed-spec : {M : Type 1} → statement M
 formed-spec =
-    tie.close (tie.spec returns order-fits-requires returns-2 group-fits-requires returns-3)
+    tie.close (tie.spec returns order-fits-requires returns-2 (λ c κs. search needs) returns-3)

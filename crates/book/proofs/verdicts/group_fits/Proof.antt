@@ -13,9 +13,6 @@ use Rattle.book.proofs.verdicts.group_fits.Tie as tie
 returns : tie.Need-returns
 returns c = let a = c .before .before .before .before .args in group-none (a .kind) (a .n) (a .group) (c .before .before .if1 .taken) (eqb-true _ 0 (c .if2 .taken))
 
-within-requires : tie.Need-within-requires
-within-requires c κs = search needs
-
 -- where a word is not 0 the group is not empty
 some : (c : tie.Joined1) → word (c .before .before .args .group) ≡ 0 → ⊥
 some c z =
@@ -33,4 +30,4 @@ returns-3 c =
     other ∙ rw other at (group-some (a .kind) (a .n) (a .group) (some (c .before)))
 
 pub group-fits-spec : {M : Type 1} → statement M
-group-fits-spec = tie.close (tie.spec returns within-requires returns-2 returns-3)
+group-fits-spec = tie.close (tie.spec returns (λ c κs. search needs) returns-2 returns-3)

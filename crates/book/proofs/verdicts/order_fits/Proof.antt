@@ -23,15 +23,6 @@ abbrev μ-loop : tie.MeasureT-loop
 loop-holds : tie.Need-loop-holds Inv-loop μ-loop
 loop-holds c = (omega arith, refl, seen-none (c .args .t1))
 
-array-read-row : tie.Need-array-read-row Inv-loop μ-loop
-array-read-row c = search needs
-
-cast-row : tie.Need-cast-row Inv-loop μ-loop
-cast-row c = search needs
-
-row-fits-requires : tie.Need-row-fits-requires Inv-loop μ-loop
-row-fits-requires c κs = search needs
-
 -- an entry fits by the rows seen as it fits by the definition
 entry : (c : tie.After-row-fits Inv-loop μ-loop)
     → c .row-fits .result ≡ entryFits (c .before .before .before .args .p) (c .before .before .before .args .t1) (c .before .before .loop .i)
@@ -47,15 +38,6 @@ returns c =
     let l = c .before .before .before .loop in
     sym (all-fails 96 (entryFits (a .p) (a .t1)) (l .i) (omega arith) (sym (entry (c .before)) ∙ not-true _ (c .if1 .taken)))
 
-with-requires : tie.Need-with-requires Inv-loop μ-loop
-with-requires c κs = search needs
-
-add-i : tie.Need-add-i Inv-loop μ-loop
-add-i c = search needs
-
-loop-less : tie.Need-loop-less Inv-loop μ-loop
-loop-less c = search needs
-
 loop-again : tie.Need-loop-again Inv-loop μ-loop
 loop-again c =
     let a = c .before .before .before .before .before .args in
@@ -64,9 +46,6 @@ loop-again c =
       all-more (l .i) (entryFits (a .p) (a .t1)) (l .inv .1) (sym (entry (c .before .before)) ∙ not-false _ (c .before .if1 .left)),
       c .with .ensures ∙ rw (l .inv .2) (seen-more (a .t1) (l .i)),
     )
-
-rest-free-requires : tie.Need-rest-free-requires Inv-loop μ-loop
-rest-free-requires c κs = search needs
 
 returns-2 : tie.Need-returns-2 Inv-loop μ-loop
 returns-2 c =
@@ -82,13 +61,13 @@ order-fits-spec =
     Inv-loop
     μ-loop
     loop-holds
-    array-read-row
-    cast-row
-    row-fits-requires
+    (λ c. search needs)
+    (λ c. search needs)
+    (λ c κs. search needs)
     returns
-    with-requires
-    add-i
-    loop-less
+    (λ c κs. search needs)
+    (λ c. search needs)
+    (λ c. search needs)
     loop-again
-    rest-free-requires
+    (λ c κs. search needs)
     returns-2)

@@ -7,9 +7,6 @@ use borrow.Author.Needs.{needs}
 use Rattle.book.proofs.verdicts.row_fits.Statement.{statement}
 use Rattle.book.proofs.verdicts.row_fits.Tie as tie
 
-has-requires : tie.Need-has-requires
-has-requires c κs = search needs
-
 returns : tie.Need-returns
 returns c = rw (lt-ltb _ _ (c .before .if1 .taken)) (ap not (c .has .ensures))
 
@@ -17,4 +14,4 @@ returns-2 : tie.Need-returns-2
 returns-2 c = rw (le-ltb _ _ (c .if1 .left)) refl
 
 pub row-fits-spec : {M : Type 1} → statement M
-row-fits-spec = tie.close (tie.spec has-requires returns returns-2)
+row-fits-spec = tie.close (tie.spec (λ c κs. search needs) returns returns-2)

@@ -25,17 +25,11 @@ words s = s .args .words .now
 abbrev out : tie.Start → List ℕ
 out s = s .args .out .now
 
-check-table-requires : tie.Need-check-table-requires
-check-table-requires c κs = search needs
-
 returns : tie.Need-returns
 returns c =
     let s = c .before .before .before .before .before in
     let found = c .before .before .check-table .ensures in
     rw found (write-table (words s) (s .args .m) (s .args .verdict) (out s) (rw found at (c .if1 .taken)))
-
-row-count-requires : tie.Need-row-count-requires
-row-count-requires c κs = search needs
 
 -- where the table has passed its checks
 fair : (c : tie.Else1) → let s = c .before .before .before .before .before in tableFault (words s) (s .args .m) .number ≡ done
@@ -96,9 +90,6 @@ store-book-requires c κs =
       rw (room .before .size .ensures) at (room .if3 .left),
     )
 
-same-length : tie.Need-same-length
-same-length c = search needs
-
 returns-4 : tie.Need-returns-4
 returns-4 c =
     let room = c .before .before .before .before .before .before .before in
@@ -119,9 +110,9 @@ pub write-spec : {M : Type 1} → statement M
 write-spec =
     tie.close
     (tie.spec
-    check-table-requires
+    (λ c κs. search needs)
     returns
-    row-count-requires
+    (λ c κs. search needs)
     formed-requires
     returns-2
     size-requires
@@ -130,5 +121,5 @@ write-spec =
     cast-t15
     cast-t16
     store-book-requires
-    same-length
+    (λ c. search needs)
     returns-4)
