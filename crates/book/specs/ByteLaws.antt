@@ -1,4 +1,4 @@
--- Laws of two numbers, of runs, of tests of all numbers, of the sum and the check, and of numbers as bytes, in this order.
+-- Laws of two numbers, of runs, of tests of all numbers, of bits together, of the sum and the check, and of numbers as bytes, in this order.
 -- Assumes nothing.
 use Prim.Native.Nat.{ℕ, zero, suc, _+_, _-_, _*_, _/_, _%_, _^_, _≤_, _<_, zero-le}
 use mathlib.Core.Path.{_≡_, refl, sym, ap, ap₂, _∙_}
@@ -89,7 +89,8 @@ pub all-ext : (n : ℕ) (p g : ℕ → Bool) → ((i : ℕ) → i < n → p i �
 all-ext zero p g h = refl
 all-ext (suc n) p g h = rw (all-ext n p g (λ i l. h i (omega arith)), h n (le-refl (suc n))) refl
 
--- bits joined by or are none where there are none in both, and bytes joined by and are 255 where both are
+-- ---- bits together: by or they are none where both have none, and by and those of two bytes are 255 where both are
+
 pub or-none : (x y : ℕ) → eqb (bitOr x y) 0 ≡ eqb x 0 && eqb y 0
 or-none x y =
     ⊎-elim (λ (e : eqb x 0 ≡ true). rw (e, eqb-true x 0 e, or-zero-l y) refl)
@@ -104,7 +105,7 @@ and-full x y l m =
 
 -- ---- the sum and the check
 
-pub sum16-ext : (c : ℕ) (f g : ℕ → ℕ) → ((p : ℕ) → p < 2 * c → f p ≡ g p) → sum16 c f ≡ sum16 c g
+sum16-ext : (c : ℕ) (f g : ℕ → ℕ) → ((p : ℕ) → p < 2 * c → f p ≡ g p) → sum16 c f ≡ sum16 c g
 unfolding sum16
 sum16-ext zero f g h = refl
 sum16-ext (suc c) f g h =

@@ -1,6 +1,6 @@
 -- Every spare byte is tested, then the form of the verdict that stands in the book.
 -- Each return rewrites the definition's test with what the functions ensure. Assumes nothing.
-use mathlib.Core.Path.{_≡_, refl, sym, ap, _∙_}
+use mathlib.Core.Path.{refl, sym, ap, _∙_}
 use mathlib.Core.Bool.{and-false, and-true}
 use borrow.Author.Tests.{not-true, not-false}
 use Rattle.book.specs.Form.{formed}
