@@ -50,6 +50,16 @@ pub(crate) fn byte_of(v: u64, j: usize) -> u8
     ((v >> (8 * j)) % 256) as u8
 }
 
+// Stores the two low bytes of a number from `at` on, high byte first.
+pub(crate) fn store_u16(bytes: &mut [u8], at: usize, v: u32)
+    requires { ⌜ at + 2 ≤ length (now bytes) ⌝ }
+    ensures { λ _. ⌜ now (bytes .exit) ≡ stored at 2 (λ t. byte (1 - t) v) (now (bytes .entry)) ⌝ }
+{
+    let w = v as u64;
+    bytes[at] = byte_of(w, 1);
+    bytes[at + 1] = byte_of(w, 0);
+}
+
 // Stores four bytes from `at` on.
 pub(crate) fn store_four(bytes: &mut [u8], at: usize, a: u8, b: u8, c: u8, d: u8)
     requires { ⌜ at + 4 ≤ length (now bytes) ⌝ }

@@ -14,23 +14,13 @@ use crate::layout;
 use crate::layout::Head;
 use rows::Set;
 
-// The number of block k, which begins at `at`.
-fn store_number(out: &mut [u8], at: usize, k: usize)
-    requires { ⌜ (at + 2 ≤ length (now out)) × (k < 256) ⌝ }
-    ensures { λ _. ⌜ now (out .exit) ≡ stored at 2 (λ t. byte (1 - t) k) (now (out .entry)) ⌝ }
-{
-    out[at] = 0;
-    out[at + 1] = k as u8;
-}
-
 // The check of the block that begins at `at`.
 fn store_check(out: &mut [u8], at: usize)
     requires { ⌜ at + 512 ≤ length (now out) ⌝ }
     ensures { λ _. ⌜ now (out .exit) ≡ stored (at + 510) 2 (λ t. byte (1 - t) (checkOf (λ p. getD (now (out .entry)) (at + p) 0))) (now (out .entry)) ⌝ }
 {
-    let check = (65535 - bytes::block_sum(out, at)) as u64;
-    out[at + 510] = bytes::byte_of(check, 1);
-    out[at + 511] = bytes::byte_of(check, 0);
+    let check = 65535 - bytes::block_sum(out, at);
+    bytes::store_u16(out, at + 510, check);
 }
 
 fn store_order(out: &mut [u8], order: [u8; 96])
@@ -62,7 +52,7 @@ pub(crate) fn store_head(out: &mut [u8], head: Head)
 {
     let order = head.order;
     let group = head.group;
-    store_number(out, 0, 0);
+    bytes::store_u16(out, 0, 0);
     bytes::store_four(out, 2, 1, head.m, head.n, head.kind);
     store_order(out, order);
     store_group(out, group);
@@ -89,7 +79,7 @@ pub(crate) fn store_rows(out: &mut [u8], words: &[u32], n: usize, k: usize)
 {
     let at = 512 * (k + 1);
     let count = layout::words_in(n, k);
-    store_number(out, at, k + 1);
+    bytes::store_u16(out, at, (k + 1) as u32);
     store_words(out, at + 2, words, 126 * k, count);
     bytes::store_zeros(out, at + 2 + 4 * count, 508 - 4 * count);
     store_check(out, at);

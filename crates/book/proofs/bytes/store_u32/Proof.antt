@@ -8,7 +8,15 @@ use Rattle.book.proofs.bytes.store_u32.Tie as tie
 
 returns : tie.Need-returns
 unfolding stored
-returns c = c .before .before .store-four .ensures ∙ rw (c .before .before .before .before .before .before .byte-of .ensures, c .before .before .before .before .before .byte-of2 .ensures, c .before .before .before .before .byte-of3 .ensures, c .before .before .before .byte-of4 .ensures) refl
+returns c =
+    c .before .before .store-four .ensures
+    ∙ rw (
+      c .before .before .before .before .before .before .byte-of .ensures,
+      c .before .before .before .before .before .byte-of2 .ensures,
+      c .before .before .before .before .byte-of3 .ensures,
+      c .before .before .before .byte-of4 .ensures,
+    )
+    refl
 
 pub store-u32-spec : {M : Type 1} → statement M
 store-u32-spec =

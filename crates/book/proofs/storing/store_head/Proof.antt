@@ -9,14 +9,22 @@ use borrow.Author.Needs.{needs}
 use Rattle.book.proofs.storing.store_head.Statement.{statement}
 use Rattle.book.proofs.storing.store_head.Tie as tie
 
+entries : (s : tie.Start) → length (s .args .head .order) ≡ 96
+entries s = search needs
+
 returns : tie.Need-returns
 returns c =
     λ words.
-    let s = c .before .before .before .before .before .before .before .before .before .before .before .before .before .before .before .before .before .before .before .before .before .before .before .before .before .before .before in
+    let check = c .before .before in
+    let zeros = check .before .before .before .before in
+    let group = zeros .before .before .before .before in
+    let order = group .before .before .before .before in
+    let four = order .before .before .before .before in
+    let number = four .before .before .before .before in
+    let s = number .before .before .before .before .before in
     let x = said (s .args .head) words in
-    let o : length (s .args .head .order) ≡ 96 = search needs in
-    let body = head-made x o refl _ _ _ _ _ (c .before .before .before .before .before .before .before .before .before .before .before .before .before .before .before .before .before .before .store-four .ensures) (c .before .before .before .before .before .before .before .before .before .before .before .before .before .before .store-order .ensures) (c .before .before .before .before .before .before .before .before .before .before .store-group .ensures) (c .before .before .before .before .before .before .store-zeros .ensures) in
-    block-made editionOne x 0 0 _ _ _ _ (s .pre) (c .before .before .before .before .before .before .before .before .before .before .before .before .before .before .before .before .before .before .before .before .before .before .store-number .ensures) body (c .before .before .store-check .ensures)
+    let body = head-made x (entries s) refl _ _ _ _ _ (four .store-four .ensures) (order .store-order .ensures) (group .store-group .ensures) (zeros .store-zeros .ensures) in
+    block-made editionOne x 0 0 _ _ _ _ (s .pre) (number .store-u16 .ensures) body (check .store-check .ensures)
 
 pub store-head-spec : {M : Type 1} → statement M
 store-head-spec =
