@@ -110,7 +110,7 @@ fn carried(s: u64) -> u32
 }
 
 // The ones' complement sum of the 255 words from `at` on: 127 pairs, and the last.
-// A pair is read low byte first, as the processor reads it; 256 times their plain sum sets the bytes right but for carries.
+// A pair is read low byte first, as the processor reads it: 256 times that has each byte where its word has it, but for carries.
 pub(crate) fn block_sum(bytes: &[u8], at: usize) -> u32
     requires { ⌜ at + 510 ≤ length (now bytes) ⌝ }
     ensures { λ r. ⌜ (r ≡ sum16 255 (λ p. getD (now (bytes .entry)) (at + p) 0)) × (r < 65536) ⌝ }
