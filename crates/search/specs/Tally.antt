@@ -10,12 +10,9 @@ use Rattle.rows.specs.Table.{table, rowCount}
 use Rattle.rows.specs.declared.sets.Set.{Set}
 use Rattle.test.specs.Test.{plainSum}
 
--- stand for a sum that is not known: of a row that was not tested, and of one that was
-abbrev pub untested : ℕ
-untested = 4_294_967_295
-
-abbrev pub tested : ℕ
-tested = 4_294_967_294
+-- from here on a number stands for a sum that is not known
+abbrev pub unknown : ℕ
+unknown = 4_294_967_294
 
 -- the sum of the plain interferences of the other rows left on row k
 abbrev pub leftSum : List ℕ → Set → ℕ → ℕ
@@ -23,7 +20,7 @@ leftSum words left k = plainSum (rowCount words) (table words) (has (withoutRow 
 
 -- the entry of row k, where it is known, is its sum
 abbrev pub Known : List ℕ → Set → List ℕ → ℕ → Type 0
-Known words left sums k = has left k ≡ true → getD sums k 0 < tested → getD sums k 0 ≡ leftSum words left k
+Known words left sums k = has left k ≡ true → getD sums k 0 < unknown → getD sums k 0 ≡ leftSum words left k
 
 pub record Tallied (words : List ℕ) (left : Set) (sums : List ℕ) : Type 0 where
   pub size : length sums ≡ 96

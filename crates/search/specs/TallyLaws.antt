@@ -21,18 +21,18 @@ use Rattle.rows.specs.TableLaws.{row-count-most, row-count-bits}
 use Rattle.rows.specs.declared.sets.Set.{Set}
 use Rattle.test.specs.Test.{plainOn}
 use Rattle.test.specs.TestLaws.{plain-sum-less, plain-sum-ext}
-use Rattle.search.specs.Tally.{untested, tested, leftSum, Known, Tallied}
+use Rattle.search.specs.Tally.{unknown, leftSum, Known, Tallied}
 
-pub tally-fresh : (words : List ℕ) (left : Set) → Tallied words left (replicate 96 untested)
-tally-fresh words left =
+pub tally-fresh : (words : List ℕ) (left : Set) (x : ℕ) → unknown ≤ x → Tallied words left (replicate 96 x)
+tally-fresh words left x more =
     record {
-      size = length-replicate {A = ℕ} 96 untested;
-      known = λ k l h less. absurd (omega (arith, getD-replicate {A = ℕ} 96 k untested 0 (omega (arith, row-count-most words))));
+      size = length-replicate {A = ℕ} 96 x;
+      known = λ k l h less. absurd (omega (arith, getD-replicate {A = ℕ} 96 k x 0 (omega (arith, row-count-most words))));
     }
 
 -- an entry is stored, which is the row's sum or stands for one that is not known
 pub tally-kept : {words : List ℕ} {left : Set} {sums : List ℕ} → Tallied words left sums → (k x : ℕ) → k < rowCount words
-    → (x < tested → x ≡ leftSum words left k) → Tallied words left (set sums k x)
+    → (x < unknown → x ≡ leftSum words left k) → Tallied words left (set sums k x)
 tally-kept {words} {left} {sums} t k x l sum =
     let here = getD-set-same sums k x 0 (omega (arith, t .size, row-count-most words)) in
     record {
@@ -76,7 +76,7 @@ module _ (words : List ℕ) where
   pub record Taking (rest : Set) (k : ℕ) (sums : List ℕ) (i : ℕ) : Type 0 where
     pub size : length sums ≡ 96
     pub pass : Pass (has rest) (rowCount words) (Before rest sums) i
-    pub ahead : (j : ℕ) → j < rowCount words → i ≤ j → has rest j ≡ true → getD sums j 0 < tested
+    pub ahead : (j : ℕ) → j < rowCount words → i ≤ j → has rest j ≡ true → getD sums j 0 < unknown
         → getD sums j 0 ≡ leftSum words rest j + plainOn (table words) j k
 
   pub taking-start : {left : Set} {sums : List ℕ} (k : ℕ) → Tallied words left sums → k < rowCount words → has left k ≡ true
@@ -93,11 +93,11 @@ module _ (words : List ℕ) where
 
   module _ {rest : Set} {k : ℕ} {sums : List ℕ} {i : ℕ} (w : Taking rest k sums i) (q : i < rowCount words) where
     -- an entry that is known has room for what row k takes
-    pub taking-fits : getD sums i 0 < tested → plainOn (table words) i k ≤ getD sums i 0
+    pub taking-fits : getD sums i 0 < unknown → plainOn (table words) i k ≤ getD sums i 0
     taking-fits less = omega (arith, w .ahead i q (omega arith) (w .pass .member q) less)
 
     -- one row further: its entry is not known, or less by what row k takes
-    pub taking-unknown : tested ≤ getD sums i 0 → Taking rest k sums (next (has rest) (i + 1))
+    pub taking-unknown : unknown ≤ getD sums i 0 → Taking rest k sums (next (has rest) (i + 1))
     taking-unknown more =
         record {
           size = w .size;
@@ -106,7 +106,7 @@ module _ (words : List ℕ) where
           ahead = λ j p l. w .ahead j p (omega (arith, next-from (has rest) (i + 1)));
         }
 
-    pub taking-less : (x : ℕ) → x ≡ plainOn (table words) i k → getD sums i 0 < tested
+    pub taking-less : (x : ℕ) → x ≡ plainOn (table words) i k → getD sums i 0 < unknown
         → Taking rest k (set sums i (getD sums i 0 - x)) (next (has rest) (i + 1))
     taking-less x e less =
         let y = getD sums i 0 - x in

@@ -36,7 +36,7 @@ fn place_all(words: &[u32], m: u32, n: usize) -> Searched
     requires { ⌜ (n ≡ rowCount (now words)) × (1 ≤ m) ⌝ }
     ensures { λ r. ⌜ Searches (now (words .entry)) m (r .state) (r .left) (r .tests) ⌝ }
 {
-    let mut sums = [tally::UNTESTED; 96];
+    let mut sums = [tally::UNKNOWN; 96];
     let mut state = fresh();
     let mut left = Set::below(n);
     let mut tests: u64 = 0;

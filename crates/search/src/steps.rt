@@ -53,13 +53,13 @@ fn probe(words: &[u32], m: u32, n: usize, stand: Stand, k: usize, sums: &mut [u3
     Stand { state: next, left }
 }
 
-// Tests until the search is finished or the quota is spent.
+// Tests until the search is finished or the quota is spent. In a short step most rows are tested once, and no sum is made.
 fn run(words: &[u32], m: u32, n: usize, state: State, left: Set, quota: u64) -> Stepped
     requires { ⌜ (n ≡ rowCount (now words)) × (1 ≤ m) × (sound n state ≡ true) ⌝ }
     requires { ⌜ left ≡ setOf (free (rowsBelow n) (placedRows n state)) ⌝ }
     ensures { λ r. ⌜ r ≡ workOf (now (words .entry)) m state quota ⌝ }
 {
-    let mut sums = [tally::UNTESTED; 96];
+    let mut sums = [tally::LATER; 96];
     let mut stand = Stand { state, left };
     let mut tests: u64 = 0;
     let mut k = next_row(left, state.cursor, n);

@@ -1,5 +1,5 @@
 // What the search keeps between its tests, so that a row that is tested again costs little: for each row left the sum of
-// the plain interferences of the other rows left on it, from its second test on.
+// the plain interferences of the other rows left on it, once known.
 ghost use mathlib.Core.Path.{_≡_};
 ghost use mathlib.Core.Bool.{true};
 ghost use Prim.Native.Nat.{_≤_, _<_};
@@ -9,13 +9,13 @@ ghost use Rattle.search.specs.Answers.{testOf};
 ghost use Rattle.search.specs.Tally.{Tallied};
 use rows::Set;
 
-// Stand for a sum that is not known: of a row that was not tested, and of one that was. No sum is as large.
-pub(crate) const UNTESTED: u32 = 0xffff_ffff;
+// Stands for a sum that is not known, and that the next test of the row makes.
+pub(crate) const UNKNOWN: u32 = 0xffff_fffe;
 
-const TESTED: u32 = 0xffff_fffe;
+// Stands for one that the next test does not make, but the one after it.
+pub(crate) const LATER: u32 = 0xffff_ffff;
 
-// Whether row k passes with the other rows left above it. The first test of a row makes no sum: it ends where the limit is
-// reached, and in a short step no second one follows.
+// Whether row k passes with the other rows left above it. A test that makes no sum ends where the limit is reached.
 pub(crate) fn passes(words: &[u32], m: u32, left: Set, k: usize, sums: &mut [u32; 96]) -> bool
     requires { ⌜ (k < rowCount (now words)) × (has left k ≡ true) × (1 ≤ m) × Tallied (now words) left (now sums) ⌝ }
     ensures { λ r. ⌜ r ≡ testOf (now (words .entry)) m (has (withoutRow left k)) k ⌝ }
@@ -23,11 +23,11 @@ pub(crate) fn passes(words: &[u32], m: u32, left: Set, k: usize, sums: &mut [u32
 {
     let above = left.without(k);
     let mut sum = sums[k];
-    if sum == UNTESTED {
-        sums[k] = TESTED;
+    if sum == LATER {
+        sums[k] = UNKNOWN;
         return test::passes(words, m, m - 1, above, k);
     }
-    if TESTED <= sum {
+    if UNKNOWN <= sum {
         sum = test::plain_sum(words, above, k);
         sums[k] = sum;
     }
@@ -44,7 +44,7 @@ pub(crate) fn take(words: &[u32], n: usize, left: Set, k: usize, sums: &mut [u32
     let mut i = rest.next(0);
     while i < n {
         let sum = sums[i];
-        if sum < TESTED {
+        if sum < UNKNOWN {
             sums[i] = sum - test::plain(words, i, k);
         }
         i = rest.next(i + 1);

@@ -42,7 +42,7 @@ loop-holds : tie.Need-loop-holds Inv-loop μ-loop
 loop-holds c =
     let start = c .before .before .before in
     rw (c .before .fresh .ensures, c .below .ensures)
-    (refl, omega arith, omega arith, levels-fresh (start .args .words .now) (start .args .m) (start .args .n) (most start), tally-fresh _ _)
+    (refl, omega arith, omega arith, levels-fresh (start .args .words .now) (start .args .m) (start .args .n) (most start), tally-fresh _ _ _ (omega arith))
 
 scan-requires : tie.Need-scan-requires Inv-loop μ-loop
 scan-requires c κs =

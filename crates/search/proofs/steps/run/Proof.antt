@@ -29,7 +29,7 @@ next-row-requires c κs = search needs
 loop-holds : tie.Need-loop-holds Inv-loop μ-loop
 loop-holds c =
     let start = c .before .before in
-    (stands-start (most start) (search needs) (start .pre .0 .2) (start .pre .1) (c .next-row .ensures), tally-fresh _ _)
+    (stands-start (most start) (search needs) (start .pre .0 .2) (start .pre .1) (c .next-row .ensures), tally-fresh _ _ _ (omega arith))
 
 probe-requires : tie.Need-probe-requires Inv-loop μ-loop
 probe-requires c κs =
