@@ -3,6 +3,7 @@ pub mod Sums
 pub mod Sets
 pub mod Judge
 pub mod Table
+pub mod Board
 pub mod BoolLaws
 pub mod NumberLaws
 pub mod SumLaws

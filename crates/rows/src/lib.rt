@@ -2,6 +2,7 @@
 pub mod numbers;
 mod sets;
 mod table;
+mod terms;
 
 pub use sets::Set;
 pub use table::Checked;
@@ -11,3 +12,5 @@ pub use table::check_table;
 pub use table::read_row;
 pub use table::row_at;
 pub use table::row_count;
+pub use terms::Terms;
+pub use terms::limited;
