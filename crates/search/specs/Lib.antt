@@ -14,5 +14,6 @@ pub mod Tally
 pub mod TallyLaws
 pub mod StateLaws
 pub mod LevelLaws
+pub mod EndedLaws
 pub mod CallLaws
 pub mod StepLaws

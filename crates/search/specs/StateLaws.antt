@@ -4,7 +4,7 @@
 use Prim.Native.Nat.{ℕ, zero, suc, _+_, _-_, _≤_, _<_}
 use mathlib.Core.Path.{_≡_, refl, sym, ap, ap₂, _∙_}
 use mathlib.Core.Logic.{⊎-elim}
-use mathlib.Core.Bool.{true, false, _&&_, and-true, and-false}
+use mathlib.Core.Bool.{Bool, true, false, _&&_, and-true, and-false}
 use mathlib.Core.List.{List, [], _∷_, _++_, append-assoc}
 use native.Mathlib.Omega.{arith}
 use native.Mathlib.Numerals.{add-one}
@@ -15,10 +15,11 @@ use lib.Seq.{take-at, drop-at, set-at, drop-cons, drop-drop, take-all, length-ta
 use borrow.Author.Tests.{eqb-true, eq-eqb, ne-eqb, ltb-true, ltb-false, le-ltb, leb-true, le-leb}
 use Rattle.rows.specs.BoolLaws.{either, not-both, and-left, and-right}
 use Rattle.rows.specs.Sets.{has, setOf, without, below, withoutRow}
-use Rattle.rows.specs.SetLaws.{has-set-of, has-set-of-above, set-ext}
+use Rattle.rows.specs.SetLaws.{FitsWords, has-set-of, has-set-of-above, set-of-has, set-ext}
 use Rattle.search.specs.Search.{rowsBelow, free, Progress}
 use Rattle.search.specs.OrderLaws.{Distinct}
 use Rattle.search.specs.State.{rowsPlaced, placedRows, orderOf, progressOf, stateOf, freshState, distinct, blankFrom, sound}
+use Rattle.rows.specs.declared.sets.Set.{Set}
 use Rattle.search.specs.declared.state.State.{State}
 
 blanks : ℕ → List ℕ
@@ -117,26 +118,41 @@ distinct-fails n order i placed h m l f =
 
 -- ---- the mask of the rows unplaced
 
-pub has-unplaced : (n : ℕ) (p : List ℕ) (k : ℕ) → n ≤ 96 → has (setOf (free (rowsBelow n) p)) k ≡ free (rowsBelow n) p k
+-- of any rows that a mask has bits for
+pub has-free : (dom : ℕ → Bool) → ((i : ℕ) → 128 ≤ i → dom i ≡ false) → (p : List ℕ) (k : ℕ) → has (setOf (free dom p)) k ≡ free dom p k
 unfolding free
-has-unplaced n p k h =
-    ⊎-elim (λ (e : ltb k 128 ≡ true). has-set-of (free (rowsBelow n) p) k (ltb-true k 128 e))
+has-free dom small p k =
+    ⊎-elim (λ (e : ltb k 128 ≡ true). has-set-of (free dom p) k (ltb-true k 128 e))
     (λ (e : ltb k 128 ≡ false).
     let above : 128 ≤ k = ltb-false k 128 e in
-    has-set-of-above (free (rowsBelow n) p) k above ∙ rw (le-ltb k n (omega arith)) refl)
+    has-set-of-above (free dom p) k above ∙ rw (small k above) refl)
     (either (ltb k 128))
+
+pub all-free : (s : Set) → FitsWords s → s ≡ setOf (free (has s) [])
+unfolding free
+all-free s f = sym (set-of-has s f) ∙ set-ext (has s) (free (has s) []) (λ i l. sym (rw and-true refl))
+
+pub less-free : (dom : ℕ → Bool) (p : List ℕ) (k : ℕ) → withoutRow (setOf (free dom p)) k ≡ setOf (free dom (k ∷ p))
+unfolding free without
+less-free dom p k =
+    set-ext (without (has (setOf (free dom p))) k) (free dom (k ∷ p))
+    (λ i l.
+    rw (has-set-of (free dom p) i l)
+    (⊎-elim (λ (e : eqb i k ≡ true). simp (e, and-false)) (λ (e : eqb i k ≡ false). rw (e, and-true) refl) (either (eqb i k))))
+
+-- of all rows of a table
+pub rows-small : (n : ℕ) → n ≤ 96 → (i : ℕ) → 128 ≤ i → rowsBelow n i ≡ false
+rows-small n h i l = le-ltb i n (omega arith)
+
+pub has-unplaced : (n : ℕ) (p : List ℕ) (k : ℕ) → n ≤ 96 → has (setOf (free (rowsBelow n) p)) k ≡ free (rowsBelow n) p k
+has-unplaced n p k h = has-free (rowsBelow n) (rows-small n h) p k
 
 pub all-unplaced : (n : ℕ) → below n ≡ setOf (free (rowsBelow n) [])
 unfolding free
 all-unplaced n = set-ext (λ i. ltb i n) (free (rowsBelow n) []) (λ i l. sym (rw and-true refl))
 
 pub less-unplaced : (n : ℕ) (p : List ℕ) (k : ℕ) → withoutRow (setOf (free (rowsBelow n) p)) k ≡ setOf (free (rowsBelow n) (k ∷ p))
-unfolding free without
-less-unplaced n p k =
-    set-ext (without (has (setOf (free (rowsBelow n) p))) k) (free (rowsBelow n) (k ∷ p))
-    (λ i l.
-    rw (has-set-of (free (rowsBelow n) p) i l)
-    (⊎-elim (λ (e : eqb i k ≡ true). simp (e, and-false)) (λ (e : eqb i k ≡ false). rw (e, and-true) refl) (either (eqb i k))))
+less-unplaced n p k = less-free (rowsBelow n) p k
 
 -- the row of the next level is distinct from those below it exactly when the mask has it
 module _ (n : ℕ) (order : List ℕ) (i : ℕ) (h : i < n) (most : n ≤ 96) (l : n ≤ length order) where

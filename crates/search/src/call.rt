@@ -1,17 +1,12 @@
 // The search in one call.
 ghost use mathlib.Core.Path.{_≡_};
-ghost use mathlib.Core.Bool.{_&&_};
 ghost use mathlib.Core.List.{_++_};
-ghost use Prim.Native.Nat.{_-_, _≤_, _<_};
+ghost use Prim.Native.Nat.{_≤_, _<_};
 ghost use lib.ListN.{length, take, drop};
 ghost use Rattle.rows.specs.Sets.{none};
-ghost use Rattle.rows.specs.Table.{rowCount};
-ghost use Rattle.search.specs.Answers.{foundOf, writtenOf, Searches, Demanded};
-use crate::scan;
-use crate::state::State;
-use crate::state::fresh;
-use crate::state::place;
-use crate::tally;
+ghost use Rattle.rows.specs.Board.{boardOf, limited};
+ghost use Rattle.search.specs.Answers.{foundOf, writtenOf, Demanded};
+use crate::ended::search_rows;
 use rows::Set;
 use rows::numbers;
 
@@ -22,37 +17,6 @@ pub struct Found {
     pub row: usize,
     pub group: Set,
     pub tests: u64,
-}
-
-// Where a search ended.
-struct Searched {
-    state: State,
-    left: Set,
-    tests: u64,
-}
-
-// Level by level, from the lowest up, until every row is placed or a scan finds none that passes.
-fn place_all(words: &[u32], m: u32, n: usize) -> Searched
-    requires { ⌜ (n ≡ rowCount (now words)) × (1 ≤ m) ⌝ }
-    ensures { λ r. ⌜ Searches (now (words .entry)) m (r .state) (r .left) (r .tests) ⌝ }
-{
-    let mut sums = [tally::UNKNOWN; 96];
-    let mut state = fresh();
-    let mut left = Set::below(n);
-    let mut tests: u64 = 0;
-    let mut placed: usize = 0;
-    while placed < n {
-        let level = scan::scan(words, m, left, n, &mut sums);
-        tests += level.tests;
-        let k = level.row;
-        if k == n {
-            break;
-        }
-        left = tally::take(words, n, left, k, &mut sums);
-        state = place(state, n, k);
-        placed += 1;
-    }
-    Searched { state, left, tests }
 }
 
 // Puts the first n entries of the order at the start of out.
@@ -80,9 +44,9 @@ fn refused(number: u32, row: usize) -> Found
 
 // The search: 1, 2, 3, 8, then 0 with the order in out, or 4 with the blocked group.
 pub fn search(words: &[u32], m: u32, out: &mut [u8]) -> Found
-    ensures { λ r. ⌜ r ≡ foundOf (now (words .entry)) m (length (now (out .entry))) ⌝ }
-    ensures { λ r. ⌜ now (out .exit) ≡ writtenOf (now (words .entry)) m (now (out .entry)) ⌝ }
-    ensures { λ r. ⌜ Demanded (now (words .entry)) m r (now (out .exit)) ⌝ }
+    ensures { λ r. ⌜ r ≡ foundOf (now (words .entry)) (limited m) (length (now (out .entry))) ⌝ }
+    ensures { λ r. ⌜ now (out .exit) ≡ writtenOf (now (words .entry)) (limited m) (now (out .entry)) ⌝ }
+    ensures { λ r. ⌜ Demanded (boardOf (now (words .entry)) (limited m)) r (now (out .exit)) ⌝ }
 {
     let checked = rows::check_table(words, m);
     if checked.number != 0 {
@@ -92,9 +56,8 @@ pub fn search(words: &[u32], m: u32, out: &mut [u8]) -> Found
     if out.len() < n {
         return refused(numbers::SHORT_OUTPUT, 0);
     }
-    let end = place_all(words, m, n);
-    let state = end.state;
-    if state.placed < n {
+    let end = search_rows(words, rows::limited(m), Set::below(n));
+    if end.placed < n {
         let group = end.left;
         return Found {
             number: numbers::BLOCKED,
@@ -103,7 +66,7 @@ pub fn search(words: &[u32], m: u32, out: &mut [u8]) -> Found
             tests: end.tests,
         };
     }
-    let order = state.order;
+    let order = end.order;
     store(&order, n, out);
     Found {
         number: numbers::DONE,

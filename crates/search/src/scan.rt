@@ -1,13 +1,16 @@
 // One level: unplaced rows tried in table sequence.
 ghost use mathlib.Core.Path.{_≡_};
-ghost use Prim.Native.Nat.{suc, _-_, _≤_, min};
+ghost use Prim.Native.Nat.{suc, _-_, min};
 ghost use Rattle.rows.specs.Sums.{count, first};
 ghost use Rattle.rows.specs.Sets.{has};
 ghost use Rattle.rows.specs.Table.{rowCount};
-ghost use Rattle.search.specs.Answers.{testOf, passing};
+ghost use Rattle.rows.specs.Board.{boardOf};
+ghost use Rattle.test.specs.Test.{passes};
+ghost use Rattle.search.specs.Answers.{passing};
 ghost use Rattle.search.specs.Tally.{Tallied};
 use crate::tally;
 use rows::Set;
+use rows::Terms;
 
 // The first row that passed, n where none did, and the tests made.
 pub(crate) struct Scanned {
@@ -30,9 +33,15 @@ pub(crate) fn next_row(left: Set, cursor: usize, n: usize) -> usize
 }
 
 // Tests the rows left, in table sequence, each with all others above it, up to the first that passes.
-pub(crate) fn scan(words: &[u32], m: u32, left: Set, n: usize, sums: &mut [u32; 96]) -> Scanned
-    requires { ⌜ (n ≡ rowCount (now words)) × (1 ≤ m) × Tallied (now words) left (now sums) ⌝ }
-    ensures { λ r. ⌜ r .row ≡ first (passing (testOf (now (words .entry)) m) (has left)) n 0 ⌝ }
+pub(crate) fn scan(
+    words: &[u32],
+    terms: Terms,
+    left: Set,
+    n: usize,
+    sums: &mut [u32; 96],
+) -> Scanned
+    requires { ⌜ (n ≡ rowCount (now words)) × Tallied (now words) left (now sums) ⌝ }
+    ensures { λ r. ⌜ r .row ≡ first (passing (passes (boardOf (now (words .entry)) terms)) (has left)) n 0 ⌝ }
     ensures { λ r. ⌜ r .tests ≡ count (min (suc (r .row)) n) (has left) ⌝ }
     ensures { λ r. ⌜ Tallied (now (words .entry)) left (now (sums .exit)) ⌝ }
 {
@@ -42,7 +51,7 @@ pub(crate) fn scan(words: &[u32], m: u32, left: Set, n: usize, sums: &mut [u32; 
     while i < n {
         if left.has(i) {
             tests += 1;
-            if tally::passes(words, m, left, i, sums) {
+            if tally::passes(words, terms, left, i, sums) {
                 row = i;
                 break;
             }

@@ -2,12 +2,14 @@
 // the plain interferences of the other rows left on it, once known.
 ghost use mathlib.Core.Path.{_≡_};
 ghost use mathlib.Core.Bool.{true};
-ghost use Prim.Native.Nat.{_≤_, _<_};
+ghost use Prim.Native.Nat.{_<_};
 ghost use Rattle.rows.specs.Sets.{has, withoutRow};
 ghost use Rattle.rows.specs.Table.{rowCount};
-ghost use Rattle.search.specs.Answers.{testOf};
+ghost use Rattle.rows.specs.Board.{boardOf};
+ghost use Rattle.test.specs.Test.{passes as Test·passes};
 ghost use Rattle.search.specs.Tally.{Tallied};
 use rows::Set;
+use rows::Terms;
 
 // Stands for a sum that is not known, and that the next test of the row makes.
 pub(crate) const UNKNOWN: u32 = 0xffff_fffe;
@@ -16,22 +18,22 @@ pub(crate) const UNKNOWN: u32 = 0xffff_fffe;
 pub(crate) const LATER: u32 = 0xffff_ffff;
 
 // Whether row k passes with the other rows left above it. A test that makes no sum ends where the limit is reached.
-pub(crate) fn passes(words: &[u32], m: u32, left: Set, k: usize, sums: &mut [u32; 96]) -> bool
-    requires { ⌜ (k < rowCount (now words)) × (has left k ≡ true) × (1 ≤ m) × Tallied (now words) left (now sums) ⌝ }
-    ensures { λ r. ⌜ r ≡ testOf (now (words .entry)) m (has (withoutRow left k)) k ⌝ }
+pub(crate) fn passes(words: &[u32], terms: Terms, left: Set, k: usize, sums: &mut [u32; 96]) -> bool
+    requires { ⌜ (k < rowCount (now words)) × (has left k ≡ true) × Tallied (now words) left (now sums) ⌝ }
+    ensures { λ r. ⌜ r ≡ Test·passes (boardOf (now (words .entry)) terms) (has (withoutRow left k)) k ⌝ }
     ensures { λ r. ⌜ Tallied (now (words .entry)) left (now (sums .exit)) ⌝ }
 {
     let above = left.without(k);
     let mut sum = sums[k];
     if sum == LATER {
         sums[k] = UNKNOWN;
-        return test::passes(words, m, m - 1, above, k);
+        return test::passes(words, terms, above, k);
     }
     if UNKNOWN <= sum {
         sum = test::plain_sum(words, above, k);
         sums[k] = sum;
     }
-    test::passes_with(words, m, m - 1, above, k, sum)
+    test::passes_with(words, terms, above, k, sum)
 }
 
 // The rows left without row k, which is placed. What it takes from each of them comes off their sums.

@@ -12,25 +12,22 @@ use Rattle.rows.specs.BoolLaws.{and-in, and-fails}
 use Rattle.rows.specs.Sums.{count, first}
 use Rattle.rows.specs.SumLaws.{count-le, first-taken, first-next, first-end}
 use Rattle.rows.specs.Sets.{has, without}
-use Rattle.search.specs.Answers.{testOf, passing}
+use Rattle.rows.specs.Board.{boardOf}
+use Rattle.rows.specs.TableLaws.{row-count-most}
+use Rattle.test.specs.Test.{passes}
+use Rattle.search.specs.Answers.{passing}
 use Rattle.search.specs.Tally.{Tallied}
 use Rattle.search.specs.TestOfLaws.{test-without}
 use Rattle.search.proofs.scan.scan.Statement.{statement}
 use Rattle.search.proofs.scan.scan.Tie as tie
 
 abbrev Inv-loop : tie.InvT-loop
-Inv-loop words m left n sums₀ row₀ tests₀ i₀ sums row tests i =
-    (i ≤ n) × (row ≡ n) × (first (passing (testOf words m) (has left)) (n - i) i ≡ first (passing (testOf words m) (has left)) n 0)
+Inv-loop words terms left n sums₀ row₀ tests₀ i₀ sums row tests i =
+    (i ≤ n) × (row ≡ n) × (first (passing (passes (boardOf words terms)) (has left)) (n - i) i ≡ first (passing (passes (boardOf words terms)) (has left)) n 0)
     × (tests ≡ count i (has left)) × Tallied words left sums
 
 abbrev μ-loop : tie.MeasureT-loop
-μ-loop words m left n sums₀ row₀ tests₀ i₀ sums row tests i = n - i
-
-loop-holds : tie.Need-loop-holds Inv-loop μ-loop
-loop-holds c = (omega arith, refl, rw sub-zero refl, refl, c .before .pre .2)
-
-has-requires : tie.Need-has-requires Inv-loop μ-loop
-has-requires c κs = search needs
+μ-loop words terms left n sums₀ row₀ tests₀ i₀ sums row tests i = n - i
 
 add-tests : tie.Need-add-tests Inv-loop μ-loop
 add-tests c =
@@ -43,22 +40,15 @@ passes-requires c κs =
     let start = l .before .before in (
       rw (start .pre .0) at (c .before .before .before .loop-test .taken),
       sym (c .before .before .has .ensures) ∙ c .before .if1 .taken,
-      start .pre .1,
       l .loop .inv .4,
     )
-
-add-i : tie.Need-add-i Inv-loop μ-loop
-add-i c = search needs
-
-loop-less : tie.Need-loop-less Inv-loop μ-loop
-loop-less c = search needs
 
 loop-again : tie.Need-loop-again Inv-loop μ-loop
 loop-again c =
     let l = c .before .before .before in
     let a = l .before .before .args in
     let H = has (a .left) in
-    let T = testOf (a .words .now) (a .m) in
+    let T = passes (boardOf (a .words .now) (a .terms)) in
     let i = l .loop .i in
     let v = l .loop .inv in
     let past : passing T H i ≡ false → first (passing T H) (a .n - (i + 1)) (i + 1) ≡ first (passing T H) (a .n) 0 =
@@ -68,7 +58,7 @@ loop-again c =
     ⊎-elim
     (λ w.
     let e : H i ≡ true = sym left ∙ w .0 .taken in
-    let f : T (without H i) i ≡ false = sym (test-without (a .words .now) (a .m) (a .left) i) ∙ sym (w .2 .ensures .0) ∙ w .3 .left in
+    let f : T (without H i) i ≡ false = sym (test-without (boardOf (a .words .now) (a .terms)) (row-count-most (a .words .now)) (a .left) i) ∙ sym (w .2 .ensures .0) ∙ w .3 .left in
     (omega arith, v .1, past (and-fails (H i) (T (without H i) i) (inr f)), w .5 ∙ rw (add-one i, e) (omega arith), rw (w .4) (w .2 .ensures .1)))
     (λ w.
     let e : H i ≡ false = sym left ∙ w .0 .left in
@@ -89,11 +79,11 @@ returns-2 c =
     let l = c .before .before .before .before .before .before in
     let a = l .before .before .args in
     let H = has (a .left) in
-    let T = testOf (a .words .now) (a .m) in
+    let T = passes (boardOf (a .words .now) (a .terms)) in
     let i = l .loop .i in
     let v = l .loop .inv in
     let e : H i ≡ true = sym (c .before .before .before .before .has .ensures) ∙ c .before .before .before .if1 .taken in
-    let f : T (without H i) i ≡ true = sym (test-without (a .words .now) (a .m) (a .left) i) ∙ sym (c .before .passes .ensures .0) ∙ c .if2 .taken in
+    let f : T (without H i) i ≡ true = sym (test-without (boardOf (a .words .now) (a .terms)) (row-count-most (a .words .now)) (a .left) i) ∙ sym (c .before .passes .ensures .0) ∙ c .if2 .taken in
     let last : min (suc i) (a .n) ≡ suc i = omega arith in (
       sym (first-taken (passing T H) (a .n) i (c .before .before .before .before .before .loop-test .taken) (and-in (H i) (T (without H i) i) e f)) ∙ v .2,
       (rw (last, e, v .3) refl, c .before .passes .ensures .1),
@@ -105,12 +95,12 @@ scan-spec =
     (tie.spec
     Inv-loop
     μ-loop
-    loop-holds
-    has-requires
+    (λ c. (omega arith, refl, rw sub-zero refl, refl, c .before .pre .1))
+    (λ c κs. search needs)
     add-tests
     passes-requires
-    add-i
-    loop-less
+    (λ c. search needs)
+    (λ c. search needs)
     loop-again
     returns
     returns-2)

@@ -6,7 +6,8 @@ use borrow.Author.Needs.{needs}
 use Rattle.rows.specs.Sets.{has, withoutRow}
 use Rattle.rows.specs.TableLaws.{row-count-most}
 use Rattle.rows.specs.declared.sets.Set.{Set}
-use Rattle.search.specs.Answers.{testOf}
+use Rattle.rows.specs.Board.{boardOf}
+use Rattle.test.specs.Test.{passes}
 use Rattle.search.specs.StepLaws.{probed-passed, probed-failed}
 use Rattle.search.specs.declared.state.State.{State}
 use Rattle.search.proofs.steps.probe.Statement.{statement}
@@ -15,12 +16,12 @@ use Rattle.search.proofs.steps.probe.Tie as tie
 passes-requires : tie.Need-passes-requires
 passes-requires c κs =
     let start = c .before .before .before .before in
-    (rw (start .pre .0 .0) at (start .pre .0 .1), start .pre .1 .0, start .pre .0 .3, start .pre .1 .1)
+    (rw (start .pre .0 .0) at (start .pre .0 .1), start .pre .1 .0, start .pre .1 .1)
 
 -- what the test tells of the row with the others above it
 told : (c : tie.After-passes)
     → let a = c .before .before .before .before .before .args in
-    testOf (a .words .now) (a .m) (has (withoutRow (a .stand .left) (a .k))) (a .k) ≡ c .passes .result
+    passes (boardOf (a .words .now) (a .terms)) (has (withoutRow (a .stand .left) (a .k))) (a .k) ≡ c .passes .result
 told c = sym (c .passes .ensures .0)
 
 take-requires : tie.Need-take-requires
@@ -38,19 +39,16 @@ returns : tie.Need-returns
 returns c =
     let tried = c .before .before .before .before in
     let a = tried .before .before .before .before .before .args in (
-      ap₂ (λ (s : State) (l : Set). record { state = s; left = l }) (c .place .ensures) (c .before .take .ensures .0)
+      ap₂ (λ (s : State) (l : Set). record { state = s; left = l }) (rw (tried .before .before .before .before .before .pre .0 .0) at (c .place .ensures)) (c .before .take .ensures .0)
           ∙ sym
-          (probed-passed (a .words .now) (a .m) (a .n) (a .stand .state) (a .stand .left) (a .k) (told tried ∙ c .before .before .before .if1 .taken)),
+          (probed-passed (boardOf (a .words .now) (a .terms)) (a .stand .state) (a .stand .left) (a .k) (told tried ∙ c .before .before .before .if1 .taken)),
       rw (c .before .take .ensures .0) (c .before .take .ensures .1),
     )
-
-add-next : tie.Need-add-next
-add-next c = search needs
 
 returns-2 : tie.Need-returns-2
 returns-2 c =
     let a = c .before .before .before .before .before .before .args in (
-      sym (probed-failed (a .words .now) (a .m) (a .n) (a .stand .state) (a .stand .left) (a .k) (told (c .before) ∙ c .if1 .left)),
+      sym (probed-failed (boardOf (a .words .now) (a .terms)) (a .stand .state) (a .stand .left) (a .k) (told (c .before) ∙ c .if1 .left)),
       c .before .passes .ensures .1,
     )
 
@@ -62,5 +60,5 @@ probe-spec =
     take-requires
     place-requires
     returns
-    add-next
+    (λ c. search needs)
     returns-2)

@@ -4,18 +4,12 @@ use mathlib.Core.Path.{_≡_, sym, _∙_}
 use borrow.Author.Tests.{not-true, not-false}
 use Rattle.rows.specs.Numbers.{done}
 use Rattle.rows.specs.Table.{rowCount, tableFault}
-use Rattle.rows.specs.TableLaws.{passed-valid, row-count-most}
+use Rattle.rows.specs.TableLaws.{row-count-most}
 use Rattle.search.specs.State.{sound}
 use Rattle.search.specs.StepLaws.{step-refused, step-unsound, step-work, step-meets}
 use borrow.Author.Needs.{needs}
 use Rattle.search.proofs.steps.step.Statement.{statement}
 use Rattle.search.proofs.steps.step.Tie as tie
-
-check-table-requires : tie.Need-check-table-requires
-check-table-requires c κs = search needs
-
-refused-requires : tie.Need-refused-requires
-refused-requires c κs = search needs
 
 returns : tie.Need-returns
 returns c =
@@ -32,15 +26,6 @@ told : (c : tie.After-left-of)
     sound (rowCount (a .words .now)) (a .state) ≡ c .left-of .result .sound
 told c = rw (c .before .row-count .ensures) at (sym (c .left-of .ensures .0))
 
-row-count-requires : tie.Need-row-count-requires
-row-count-requires c κs = search needs
-
-left-of-requires : tie.Need-left-of-requires
-left-of-requires c κs = rw (c .row-count .ensures) (row-count-most _)
-
-refused-requires-2 : tie.Need-refused-requires-2
-refused-requires-2 c κs = search needs
-
 returns-2 : tie.Need-returns-2
 returns-2 c =
     let checked = c .before .before .before in
@@ -49,11 +34,10 @@ returns-2 c =
 
 run-requires : tie.Need-run-requires
 run-requires c κs =
-    let checked = c .before .before in
-    let valid = not-false _ (c .if2 .left) in (
+    let checked = c .before .before .before in
+    let valid = not-false _ (c .before .if2 .left) in (
       (
         checked .before .row-count .ensures,
-        passed-valid _ _ (passed (checked .before .before)) .some-cores,
         sym (checked .left-of .ensures .0) ∙ valid,
       ),
       checked .left-of .ensures .1 valid,
@@ -61,20 +45,22 @@ run-requires c κs =
 
 returns-3 : tie.Need-returns-3
 returns-3 c =
-    let checked = c .before .before .before in
+    let checked = c .before .before .before .before in
     step-meets _ _ _ _ (c .run .result)
-    (c .run .ensures ∙ sym (step-work _ _ _ _ (passed (checked .before .before)) (told checked ∙ not-false _ (c .before .if2 .left))))
+    (rw (c .before .limited .ensures) at (c .run .ensures)
+    ∙ sym (step-work _ _ _ _ (passed (checked .before .before)) (told checked ∙ not-false _ (c .before .before .if2 .left))))
 
 pub step-spec : {M : Type 1} → statement M
 step-spec =
     tie.close
     (tie.spec
-    check-table-requires
-    refused-requires
+    (λ c κs. search needs)
+    (λ c κs. search needs)
     returns
-    row-count-requires
-    left-of-requires
-    refused-requires-2
+    (λ c κs. search needs)
+    (λ c κs. rw (c .row-count .ensures) (row-count-most _))
+    (λ c κs. search needs)
     returns-2
+    (λ c κs. search needs)
     run-requires
     returns-3)

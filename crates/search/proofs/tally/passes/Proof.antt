@@ -19,7 +19,7 @@ returns : tie.Need-returns
 returns c =
     let start = c .before .before .before .before .before in (
       c .passes .ensures ∙ rw (c .before .before .before .without .ensures) refl,
-      tally-kept (start .pre .3) (start .args .k) _ (start .pre .0) (λ less. absurd (omega arith)),
+      tally-kept (start .pre .2) (start .args .k) _ (start .pre .0) (λ less. absurd (omega arith)),
     )
 
 -- the row's sum, known before or found now
@@ -32,14 +32,14 @@ entry c =
     ⊎-elim
     (λ w.
     let sum = rw (c .before .before .before .without .ensures) at (w .1 .ensures) in
-    rw (w .2, w .3) (sum, tally-kept (start .pre .3) (a .k) (w .1 .result) (start .pre .0) (λ _. sum)))
-    (λ w. rw (w .1, w .2) (start .pre .3 .known (a .k) (start .pre .0) (start .pre .1) (omega (arith, w .0 .left)), start .pre .3))
+    rw (w .2, w .3) (sum, tally-kept (start .pre .2) (a .k) (w .1 .result) (start .pre .0) (λ _. sum)))
+    (λ w. rw (w .1, w .2) (start .pre .2 .known (a .k) (start .pre .0) (start .pre .1) (omega (arith, w .0 .left)), start .pre .2))
     (c .if2 .came)
 
 returns-2 : tie.Need-returns-2
 returns-2 c =
     let known = entry (c .before) in
-    (c .passes-with .ensures ∙ rw (known .0, c .before .before .before .before .without .ensures) (passes-with _ _ _ _ _ _), known .1)
+    (c .passes-with .ensures ∙ rw (known .0, c .before .before .before .before .without .ensures) (passes-with _ _ _), known .1)
 
 pub passes-spec : {M : Type 1} → statement M
 passes-spec =
@@ -50,12 +50,10 @@ passes-spec =
     (λ c. in-sums (c .before .before))
     (λ c. omega (arith, in-sums (c .before .before .before .before)))
     (λ c. in-sums (c .before .before .before .before))
-    (λ c. search needs)
     (λ c κs. search needs)
     returns
     (λ c κs. search needs)
     (λ c. omega (arith, in-sums (c .before .before .before .before .before .before)))
     (λ c. in-sums (c .before .before .before .before .before .before))
-    (λ c. search needs)
     (λ c κs. search needs)
     returns-2)
