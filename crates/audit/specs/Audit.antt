@@ -1,6 +1,6 @@
 -- What the checkers of orders and of blocked groups answer, for all inputs (document 01, "Numbers answered": 5, 6 and 14).
 -- Assumes nothing.
-use Prim.Native.Nat.{ℕ, zero, suc, _-_}
+use Prim.Native.Nat.{ℕ, zero, suc}
 use mathlib.Core.Bool.{Bool, _&&_, cond}
 use mathlib.Core.List.{List, [], _∷_, _++_}
 use lib.Dec.{eqb, ltb}
@@ -9,12 +9,14 @@ use Rattle.rows.specs.Sums.{first}
 use Rattle.rows.specs.Judge.{check, judge}
 use Rattle.rows.specs.Numbers.{done, malformed, order-fails, member-passes}
 use Rattle.rows.specs.Sets.{has, size, within}
-use Rattle.rows.specs.Table.{table, rowCount, tableChecks}
+use Rattle.rows.specs.Table.{rowCount, tableChecks}
+use Rattle.rows.specs.Board.{Board, boardOf}
 use Rattle.rows.specs.declared.sets.Set.{Set}
-use Rattle.test.specs.Test.{used}
+use Rattle.rows.specs.declared.terms.Terms.{Terms}
+use Rattle.test.specs.Test.{used, passes}
 use Rattle.search.specs.Demand.{among}
 use Rattle.search.specs.State.{distinct}
-use Rattle.search.specs.Answers.{testOf, passing}
+use Rattle.search.specs.Answers.{passing}
 use Rattle.audit.specs.declared.orders.OrderChecked.{OrderChecked}
 use Rattle.audit.specs.declared.groups.GroupChecked.{GroupChecked}
 
@@ -35,26 +37,21 @@ abbrev pub lowestFailing : ((ℕ → Bool) → ℕ → Bool) → List ℕ → �
 lowestFailing test o = lowestOf test o (length o)
 
 -- the answer where no level fails, and where level suc j is the lowest that does
-abbrev pub levelAnswer : List ℕ → ℕ → List ℕ → ℕ → OrderChecked
-levelAnswer words m o zero = record { number = done; row = 0; level = 0; used = 0 }
-levelAnswer words m o (suc j) =
-    record {
-      number = order-fails;
-      row = 0;
-      level = suc j;
-      used = used (rowCount words) (table words) m (m - 1) (among (take j o)) (getD o j 0);
-    }
+abbrev pub levelAnswer : Board → List ℕ → ℕ → OrderChecked
+levelAnswer b o zero = record { number = done; row = 0; level = 0; used = 0 }
+levelAnswer b o (suc j) = record { number = order-fails; row = 0; level = suc j; used = used b (among (take j o)) (getD o j 0) }
 
-unfoldable pub levelsOf : List ℕ → ℕ → List ℕ → OrderChecked
-levelsOf words m o = levelAnswer words m o (lowestFailing (testOf words m) o)
+unfoldable pub levelsOf : Board → List ℕ → OrderChecked
+levelsOf b o = levelAnswer b o (lowestFailing (passes b) o)
 
 abbrev pub orderRefusal : ℕ → ℕ → OrderChecked
 orderRefusal number place = record { number = number; row = place; level = 0; used = 0 }
 
 -- what the check of an order answers
-unfoldable pub orderCheckedOf : List ℕ → ℕ → List ℕ → OrderChecked
-orderCheckedOf words m o =
-    judge (tableChecks words m ++ (check (isOrder (rowCount words) o) malformed ∷ [])) orderRefusal (levelsOf words m o)
+unfoldable pub orderCheckedOf : List ℕ → Terms → List ℕ → OrderChecked
+orderCheckedOf words terms o =
+    judge (tableChecks words (terms .m) ++ (check (isOrder (rowCount words) o) malformed ∷ [])) orderRefusal
+    (levelsOf (boardOf words terms) o)
 
 -- ---- groups
 
@@ -74,7 +71,7 @@ abbrev pub memberAnswer : ℕ → ℕ → GroupChecked
 memberAnswer n r = cond (ltb r n) (record { number = member-passes; row = r }) (record { number = done; row = 0 })
 
 -- what the check of a blocked group answers
-unfoldable pub groupCheckedOf : List ℕ → ℕ → Set → GroupChecked
-groupCheckedOf words m group =
-    judge (tableChecks words m ++ (check (isGroup (rowCount words) group) malformed ∷ [])) groupRefusal
-    (memberAnswer (rowCount words) (lowestPassing (testOf words m) (rowCount words) group))
+unfoldable pub groupCheckedOf : List ℕ → Terms → Set → GroupChecked
+groupCheckedOf words terms group =
+    judge (tableChecks words (terms .m) ++ (check (isGroup (rowCount words) group) malformed ∷ [])) groupRefusal
+    (memberAnswer (rowCount words) (lowestPassing (passes (boardOf words terms)) (rowCount words) group))

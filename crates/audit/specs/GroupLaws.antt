@@ -17,9 +17,12 @@ use Rattle.rows.specs.SetLaws.{within-iff}
 use Rattle.rows.specs.Table.{rowCount, tableFault}
 use Rattle.rows.specs.TableLaws.{judge-refused, judge-passed}
 use Rattle.rows.specs.declared.sets.Set.{Set}
+use Rattle.rows.specs.Board.{boardOf}
+use Rattle.rows.specs.declared.terms.Terms.{Terms}
+use Rattle.test.specs.Test.{passes}
 use Rattle.search.specs.Search.{rowsBelow}
 use Rattle.search.specs.Demand.{Blocked}
-use Rattle.search.specs.Answers.{testOf, passing}
+use Rattle.search.specs.Answers.{passing}
 use Rattle.audit.specs.Audit.{isGroup, lowestPassing, groupRefusal, memberAnswer, groupCheckedOf}
 
 -- ---- what a group is
@@ -87,36 +90,36 @@ module _ (test : (ℕ → Bool) → ℕ → Bool) (n : ℕ) (group : Set) where
 
 -- ---- the answer by the check that decides it
 
-module _ (words : List ℕ) (m : ℕ) (group : Set) where
+module _ (words : List ℕ) (terms : Terms) (group : Set) where
   abbrev lowest : ℕ
-  lowest = lowestPassing (testOf words m) (rowCount words) group
+  lowest = lowestPassing (passes (boardOf words terms)) (rowCount words) group
 
   form : List Check
   form = check (isGroup (rowCount words) group) malformed ∷ []
 
   -- 1, 2, 3
-  pub group-refused : (tableFault words m .number ≡ done → ⊥)
-      → groupCheckedOf words m group ≡ groupRefusal (tableFault words m .number) (tableFault words m .row)
+  pub group-refused : (tableFault words (terms .m) .number ≡ done → ⊥)
+      → groupCheckedOf words terms group ≡ groupRefusal (tableFault words (terms .m) .number) (tableFault words (terms .m) .row)
   unfolding groupCheckedOf form
-  group-refused h = judge-refused words m form groupRefusal (memberAnswer (rowCount words) lowest) h
+  group-refused h = judge-refused words (terms .m) form groupRefusal (memberAnswer (rowCount words) lowest) h
 
-  module _ (passed : tableFault words m .number ≡ done) where
+  module _ (passed : tableFault words (terms .m) .number ≡ done) where
     -- 5
-    pub group-malformed : isGroup (rowCount words) group ≡ false → groupCheckedOf words m group ≡ groupRefusal malformed 0
+    pub group-malformed : isGroup (rowCount words) group ≡ false → groupCheckedOf words terms group ≡ groupRefusal malformed 0
     unfolding groupCheckedOf form
-    group-malformed e = judge-passed words m form groupRefusal (memberAnswer (rowCount words) lowest) passed ∙ rw e refl
+    group-malformed e = judge-passed words (terms .m) form groupRefusal (memberAnswer (rowCount words) lowest) passed ∙ rw e refl
 
     module _ (formed : isGroup (rowCount words) group ≡ true) where
       -- 14
-      pub group-member : lowest < rowCount words → groupCheckedOf words m group ≡ groupRefusal member-passes lowest
+      pub group-member : lowest < rowCount words → groupCheckedOf words terms group ≡ groupRefusal member-passes lowest
       unfolding groupCheckedOf form
       group-member l =
-          judge-passed words m form groupRefusal (memberAnswer (rowCount words) lowest) passed
+          judge-passed words (terms .m) form groupRefusal (memberAnswer (rowCount words) lowest) passed
           ∙ rw (formed, lt-ltb lowest (rowCount words) l) refl
 
       -- 0
-      pub group-done : rowCount words ≤ lowest → groupCheckedOf words m group ≡ groupRefusal done 0
+      pub group-done : rowCount words ≤ lowest → groupCheckedOf words terms group ≡ groupRefusal done 0
       unfolding groupCheckedOf form
       group-done l =
-          judge-passed words m form groupRefusal (memberAnswer (rowCount words) lowest) passed
+          judge-passed words (terms .m) form groupRefusal (memberAnswer (rowCount words) lowest) passed
           ∙ rw (formed, le-ltb lowest (rowCount words) l) refl

@@ -19,14 +19,15 @@ use Rattle.rows.specs.Sums.{times, on}
 use Rattle.rows.specs.SumLaws.{count-zero-iff, on-le, on-true}
 use Rattle.rows.specs.Sets.{has, setOf, below, withoutRow}
 use Rattle.rows.specs.SetLaws.{has-set-of}
-use Rattle.rows.specs.Table.{table, rowCount, tableFault}
-use Rattle.rows.specs.TableLaws.{judge-refused, judge-passed, row-count-most}
+use Rattle.rows.specs.Table.{rowCount, tableFault}
+use Rattle.rows.specs.TableLaws.{judge-refused, judge-passed}
+use Rattle.rows.specs.Board.{Board, boardOf}
+use Rattle.rows.specs.declared.terms.Terms.{Terms}
 use Rattle.test.specs.Test.{used, passes}
 use Rattle.test.specs.TestLaws.{used-ext}
 use Rattle.search.specs.Search.{rowsBelow, free}
 use Rattle.search.specs.Demand.{Order, among, Passing}
 use Rattle.search.specs.State.{distinct}
-use Rattle.search.specs.Answers.{testOf}
 use Rattle.search.specs.FreeLaws.{free-in, in-free}
 use Rattle.search.specs.OrderLaws.{times-append, elem-times, times-elem, times-pos, times-none, tally, distinct-order}
 use Rattle.search.specs.DemandLaws.{rows-count}
@@ -124,18 +125,18 @@ rows-above n o O j i =
     in-free (rowsBelow n) (drop j o) i (on-true (rowsBelow n i) (omega arith)) (times-none i (drop j o) (omega (arith, on-le (rowsBelow n i) 1))))
 
 -- so the mask serves for them in the test and in used
-module _ (words : List ℕ) (m : ℕ) (o : List ℕ) (formed : isOrder (rowCount words) o ≡ true) (j k : ℕ) where
-  mask-above : (i : ℕ) → i < 128 → has (setOf (free (rowsBelow (rowCount words)) (drop j o))) i ≡ among (take j o) i
-  mask-above i l = has-set-of (free (rowsBelow (rowCount words)) (drop j o)) i l ∙ rows-above (rowCount words) o (is-order-iff (rowCount words) o .0 formed) j i
+module _ (b : Board) (most : b .n ≤ 96) (o : List ℕ) (formed : isOrder (b .n) o ≡ true) (j k : ℕ) where
+  abbrev left : ℕ → Bool
+  left = has (setOf (free (rowsBelow (b .n)) (drop j o)))
 
-  pub test-above : testOf words m (has (setOf (free (rowsBelow (rowCount words)) (drop j o)))) k ≡ testOf words m (among (take j o)) k
-  test-above = test-ext words m (has (setOf (free (rowsBelow (rowCount words)) (drop j o)))) (among (take j o)) k mask-above
+  mask-above : (i : ℕ) → i < 128 → left i ≡ among (take j o) i
+  mask-above i l = has-set-of (free (rowsBelow (b .n)) (drop j o)) i l ∙ rows-above (b .n) o (is-order-iff (b .n) o .0 formed) j i
 
-  pub used-above : used (rowCount words) (table words) m (m - 1) (has (setOf (free (rowsBelow (rowCount words)) (drop j o)))) k
-      ≡ used (rowCount words) (table words) m (m - 1) (among (take j o)) k
-  used-above =
-      used-ext (rowCount words) (table words) (table words) (has (setOf (free (rowsBelow (rowCount words)) (drop j o)))) (among (take j o))
-      (λ i l. mask-above i (omega (arith, row-count-most words))) (λ i l e. refl) m (m - 1) k refl
+  pub test-above : passes b left k ≡ passes b (among (take j o)) k
+  test-above = test-ext b most left (among (take j o)) k mask-above
+
+  pub used-above : used b left k ≡ used b (among (take j o)) k
+  used-above = used-ext b (b .t) left (among (take j o)) (λ i l. mask-above i (omega arith)) (λ i l e. refl) k refl
 
 -- ---- the lowest level that fails
 
@@ -195,52 +196,52 @@ module _ (test : (ℕ → Bool) → ℕ → Bool) (o : List ℕ) where
   lowest-some h = ⊎-elim (λ w. absurd (omega (arith, w .0))) (λ w. w) (lowest-is (length o))
 
 -- a level that fails uses more than its row's D
-pub lowest-exceeds : (words : List ℕ) (m : ℕ) (o : List ℕ) → 0 < lowestFailing (testOf words m) o
-    → (let j = lowestFailing (testOf words m) o - 1 in
-    table words (getD o j 0) .d < used (rowCount words) (table words) m (m - 1) (among (take j o)) (getD o j 0))
+pub lowest-exceeds : (b : Board) (o : List ℕ) → 0 < lowestFailing (passes b) o
+    → (let j = lowestFailing (passes b) o - 1 in b .t (getD o j 0) .d < used b (among (take j o)) (getD o j 0))
 unfolding passes
-lowest-exceeds words m o h =
-    let F = lowest-some (testOf words m) o h in
-    let at : lowestFailing (testOf words m) o - 1 ≡ F .higher = omega (arith, F .level-is) in
+lowest-exceeds b o h =
+    let F = lowest-some (passes b) o h in
+    let at : lowestFailing (passes b) o - 1 ≡ F .higher = omega (arith, F .level-is) in
     let k = getD o (F .higher) 0 in
-    rw at (leb-false (used (rowCount words) (table words) m (m - 1) (among (take (F .higher) o)) k) (table words k .d) (F .fails))
+    rw at (leb-false (used b (among (take (F .higher) o)) k) (b .t k .d) (F .fails))
 
 -- ---- the answer by the check that decides it
 
-module _ (words : List ℕ) (m : ℕ) (o : List ℕ) where
+module _ (words : List ℕ) (terms : Terms) (o : List ℕ) where
   form : List Check
   form = check (isOrder (rowCount words) o) malformed ∷ []
 
   -- 1, 2, 3
-  pub order-refused : (tableFault words m .number ≡ done → ⊥)
-      → orderCheckedOf words m o ≡ orderRefusal (tableFault words m .number) (tableFault words m .row)
+  pub order-refused : (tableFault words (terms .m) .number ≡ done → ⊥)
+      → orderCheckedOf words terms o ≡ orderRefusal (tableFault words (terms .m) .number) (tableFault words (terms .m) .row)
   unfolding orderCheckedOf form
-  order-refused h = judge-refused words m form orderRefusal (levelsOf words m o) h
+  order-refused h = judge-refused words (terms .m) form orderRefusal (levelsOf (boardOf words terms) o) h
 
-  module _ (passed : tableFault words m .number ≡ done) where
+  module _ (passed : tableFault words (terms .m) .number ≡ done) where
     -- 5
-    pub order-malformed : isOrder (rowCount words) o ≡ false → orderCheckedOf words m o ≡ orderRefusal malformed 0
+    pub order-malformed : isOrder (rowCount words) o ≡ false → orderCheckedOf words terms o ≡ orderRefusal malformed 0
     unfolding orderCheckedOf form
-    order-malformed e = judge-passed words m form orderRefusal (levelsOf words m o) passed ∙ rw e refl
+    order-malformed e = judge-passed words (terms .m) form orderRefusal (levelsOf (boardOf words terms) o) passed ∙ rw e refl
 
     -- the work
-    pub order-levels : isOrder (rowCount words) o ≡ true → orderCheckedOf words m o ≡ levelsOf words m o
+    pub order-levels : isOrder (rowCount words) o ≡ true → orderCheckedOf words terms o ≡ levelsOf (boardOf words terms) o
     unfolding orderCheckedOf form
-    order-levels e = judge-passed words m form orderRefusal (levelsOf words m o) passed ∙ rw e refl
+    order-levels e = judge-passed words (terms .m) form orderRefusal (levelsOf (boardOf words terms) o) passed ∙ rw e refl
 
+module _ (b : Board) (o : List ℕ) where
   -- 0
-  pub levels-done : lowestFailing (testOf words m) o ≡ 0 → levelsOf words m o ≡ orderRefusal done 0
+  pub levels-done : lowestFailing (passes b) o ≡ 0 → levelsOf b o ≡ orderRefusal done 0
   unfolding levelsOf
   levels-done e = rw e refl
 
   -- 6
-  pub levels-fails : (level : ℕ) → 0 < level → lowestFailing (testOf words m) o ≡ level
-      → levelsOf words m o
+  pub levels-fails : (level : ℕ) → 0 < level → lowestFailing (passes b) o ≡ level
+      → levelsOf b o
       ≡ record {
         number = order-fails;
         row = 0;
         level = level;
-        used = used (rowCount words) (table words) m (m - 1) (among (take (level - 1) o)) (getD o (level - 1) 0);
+        used = used b (among (take (level - 1) o)) (getD o (level - 1) 0);
       }
   unfolding levelsOf
   levels-fails zero h e = absurd (omega arith)

@@ -1,10 +1,12 @@
 // The checker of blocked groups: each member fails with the other members above it.
 ghost use mathlib.Core.Path.{_≡_};
-ghost use Prim.Native.Nat.{_≤_};
 ghost use Rattle.rows.specs.Sets.{has};
-ghost use Rattle.search.specs.Answers.{testOf, passing};
+ghost use Rattle.rows.specs.Board.{boardOf, limited};
+ghost use Rattle.test.specs.Test.{passes};
+ghost use Rattle.search.specs.Answers.{passing};
 ghost use Rattle.audit.specs.Audit.{isGroup, lowestPassing, groupCheckedOf};
 use rows::Set;
+use rows::Terms;
 use rows::numbers;
 
 // A group's answer: the number, with 3 the lowest row at fault, with 14 the lowest member that passes.
@@ -24,24 +26,22 @@ fn is_group(n: usize, group: Set) -> bool
 }
 
 // Whether the row is a member that passes with the other members above it.
-fn member_passes(words: &[u32], m: u32, group: Set, row: usize) -> bool
-    requires { ⌜ 1 ≤ m ⌝ }
-    ensures { λ r. ⌜ r ≡ passing (testOf (now (words .entry)) m) (has group) row ⌝ }
+fn member_passes(words: &[u32], terms: Terms, group: Set, row: usize) -> bool
+    ensures { λ r. ⌜ r ≡ passing (passes (boardOf (now (words .entry)) terms)) (has group) row ⌝ }
 {
     if !group.has(row) {
         return false;
     }
-    test::passes(words, m, m - 1, group.without(row), row)
+    test::passes(words, terms, group.without(row), row)
 }
 
 // The lowest member that passes with the other members above it; n where none does.
-fn lowest_passing(words: &[u32], m: u32, n: usize, group: Set) -> usize
-    requires { ⌜ 1 ≤ m ⌝ }
-    ensures { λ r. ⌜ r ≡ lowestPassing (testOf (now (words .entry)) m) n group ⌝ }
+fn lowest_passing(words: &[u32], terms: Terms, n: usize, group: Set) -> usize
+    ensures { λ r. ⌜ r ≡ lowestPassing (passes (boardOf (now (words .entry)) terms)) n group ⌝ }
 {
     let mut row: usize = 0;
     while row < n {
-        if member_passes(words, m, group, row) {
+        if member_passes(words, terms, group, row) {
             break;
         }
         row += 1;
@@ -51,7 +51,7 @@ fn lowest_passing(words: &[u32], m: u32, n: usize, group: Set) -> usize
 
 // The check of a blocked group: 1, 2, 3, 5, then 0, or 14 with the lowest member that passes.
 pub fn check_group(words: &[u32], m: u32, group: Set) -> GroupChecked
-    ensures { λ r. ⌜ r ≡ groupCheckedOf (now (words .entry)) m group ⌝ }
+    ensures { λ r. ⌜ r ≡ groupCheckedOf (now (words .entry)) (limited m) group ⌝ }
 {
     let checked = rows::check_table(words, m);
     if checked.number != 0 {
@@ -67,7 +67,7 @@ pub fn check_group(words: &[u32], m: u32, group: Set) -> GroupChecked
             row: 0,
         };
     }
-    let row = lowest_passing(words, m, n, group);
+    let row = lowest_passing(words, rows::limited(m), n, group);
     if row < n {
         return GroupChecked {
             number: numbers::MEMBER_PASSES,

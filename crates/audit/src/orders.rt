@@ -3,8 +3,10 @@ ghost use mathlib.Core.Path.{_≡_};
 ghost use mathlib.Core.Bool.{true};
 ghost use Prim.Native.Nat.{_≤_};
 ghost use Rattle.rows.specs.Table.{rowCount};
+ghost use Rattle.rows.specs.Board.{boardOf, limited};
 ghost use Rattle.audit.specs.Audit.{isOrder, levelsOf, orderCheckedOf};
 use rows::Set;
+use rows::Terms;
 use rows::numbers;
 
 // An order's answer: the number, with 3 the lowest row at fault, with 6 the lowest level that fails and its used.
@@ -37,9 +39,9 @@ fn is_order(n: usize, order: &[u8]) -> bool
 }
 
 // Tests the levels of an order from the lowest up, each row with those of the higher levels above it, up to the first that fails.
-fn check_levels(words: &[u32], m: u32, order: &[u8]) -> OrderChecked
-    requires { ⌜ (1 ≤ m) × (isOrder (rowCount (now words)) (now order) ≡ true) ⌝ }
-    ensures { λ r. ⌜ r ≡ levelsOf (now (words .entry)) m (now (order .entry)) ⌝ }
+fn check_levels(words: &[u32], terms: Terms, order: &[u8]) -> OrderChecked
+    requires { ⌜ isOrder (rowCount (now words)) (now order) ≡ true ⌝ }
+    ensures { λ r. ⌜ r ≡ levelsOf (boardOf (now (words .entry)) terms) (now (order .entry)) ⌝ }
 {
     let n = order.len();
     let mut above = Set::below(n);
@@ -47,12 +49,12 @@ fn check_levels(words: &[u32], m: u32, order: &[u8]) -> OrderChecked
     while 0 < level {
         let k = order[level - 1] as usize;
         above = above.without(k);
-        if !test::passes(words, m, m - 1, above, k) {
+        if !test::passes(words, terms, above, k) {
             return OrderChecked {
                 number: numbers::ORDER_FAILS,
                 row: 0,
                 level,
-                used: test::used(words, m, m - 1, above, k),
+                used: test::used(words, terms, above, k),
             };
         }
         level -= 1;
@@ -78,7 +80,7 @@ fn refused(number: u32, row: usize) -> OrderChecked
 
 // The check of an order: 1, 2, 3, 5, then 0, or 6 with the lowest level that fails and its used.
 pub fn check_order(words: &[u32], m: u32, order: &[u8]) -> OrderChecked
-    ensures { λ r. ⌜ r ≡ orderCheckedOf (now (words .entry)) m (now (order .entry)) ⌝ }
+    ensures { λ r. ⌜ r ≡ orderCheckedOf (now (words .entry)) (limited m) (now (order .entry)) ⌝ }
 {
     let checked = rows::check_table(words, m);
     if checked.number != 0 {
@@ -88,5 +90,5 @@ pub fn check_order(words: &[u32], m: u32, order: &[u8]) -> OrderChecked
     if !is_order(n, order) {
         return refused(numbers::MALFORMED, 0);
     }
-    check_levels(words, m, order)
+    check_levels(words, rows::limited(m), order)
 }

@@ -6,15 +6,12 @@ use borrow.Author.Needs.{needs}
 use borrow.Author.Tests.{not-true, not-false}
 use Rattle.rows.specs.Numbers.{done}
 use Rattle.rows.specs.Table.{rowCount, tableFault}
-use Rattle.rows.specs.TableLaws.{passed-valid}
-use Rattle.search.specs.Answers.{testOf}
+use Rattle.rows.specs.Board.{boardOf, limited}
+use Rattle.test.specs.Test.{passes}
 use Rattle.audit.specs.Audit.{isGroup, lowestPassing}
 use Rattle.audit.specs.GroupLaws.{group-refused, group-malformed, group-member, group-done}
 use Rattle.audit.proofs.groups.check_group.Statement.{statement}
 use Rattle.audit.proofs.groups.check_group.Tie as tie
-
-check-table-requires : tie.Need-check-table-requires
-check-table-requires c κs = search needs
 
 returns : tie.Need-returns
 returns c =
@@ -28,19 +25,10 @@ entry c = c .before .before .before .before
 passed : (c : tie.Else1) → tableFault (entry c .args .words .now) (entry c .args .m) .number ≡ done
 passed c = rw (c .before .before .check-table .ensures) at (c .if1 .left)
 
-row-count-requires : tie.Need-row-count-requires
-row-count-requires c κs = search needs
-
-is-group-requires : tie.Need-is-group-requires
-is-group-requires c κs = search needs
-
 returns-2 : tie.Need-returns-2
 returns-2 c =
     let formed = rw (c .before .before .row-count .ensures) at (c .before .is-group .ensures) in
     sym (group-malformed _ _ _ (passed (c .before .before .before)) (sym formed ∙ not-true _ (c .if2 .taken)))
-
-lowest-passing-requires : tie.Need-lowest-passing-requires
-lowest-passing-requires c κs = passed-valid _ _ (passed (c .before .before .before)) .some-cores
 
 -- where the group's form has passed
 formed : (c : tie.Else2)
@@ -50,20 +38,20 @@ formed c = sym (rw (c .before .before .row-count .ensures) at (c .before .is-gro
 
 -- the row found
 lowest : (c : tie.After-lowest-passing)
-    → let a = entry (c .before .before .before .before) .args in
-    c .lowest-passing .result ≡ lowestPassing (testOf (a .words .now) (a .m)) (rowCount (a .words .now)) (a .group)
-lowest c = rw (c .before .before .before .row-count .ensures) at (c .lowest-passing .ensures)
+    → let a = entry (c .before .before .before .before .before) .args in
+    c .lowest-passing .result ≡ lowestPassing (passes (boardOf (a .words .now) (limited (a .m)))) (rowCount (a .words .now)) (a .group)
+lowest c = rw (c .before .limited .ensures, c .before .before .before .before .row-count .ensures) at (c .lowest-passing .ensures)
 
 returns-3 : tie.Need-returns-3
 returns-3 c =
-    let at = c .before .before in
+    let at = c .before .before .before in
     let rows = at .before .before .row-count .ensures in
     rw (lowest (c .before))
     (sym (group-member _ _ _ (passed (at .before .before .before)) (formed at) (rw (rows, lowest (c .before)) at (c .if3 .taken))))
 
 returns-4 : tie.Need-returns-4
 returns-4 c =
-    let at = c .before .before in
+    let at = c .before .before .before in
     let rows = at .before .before .row-count .ensures in
     sym (group-done _ _ _ (passed (at .before .before .before)) (formed at) (rw (rows, lowest (c .before)) at (c .if3 .left)))
 
@@ -71,11 +59,12 @@ pub check-group-spec : {M : Type 1} → statement M
 check-group-spec =
     tie.close
     (tie.spec
-    check-table-requires
+    (λ c κs. search needs)
     returns
-    row-count-requires
-    is-group-requires
+    (λ c κs. search needs)
+    (λ c κs. search needs)
     returns-2
-    lowest-passing-requires
+    (λ c κs. search needs)
+    (λ c κs. search needs)
     returns-3
     returns-4)

@@ -7,29 +7,19 @@ use borrow.Author.Needs.{needs}
 use Rattle.rows.specs.Sums.{first}
 use Rattle.rows.specs.SumLaws.{first-taken, first-next, first-end}
 use Rattle.rows.specs.Sets.{has}
-use Rattle.search.specs.Answers.{testOf, passing}
+use Rattle.rows.specs.Board.{boardOf}
+use Rattle.test.specs.Test.{passes}
+use Rattle.search.specs.Answers.{passing}
 use Rattle.audit.specs.Audit.{lowestPassing}
 use Rattle.audit.proofs.groups.lowest_passing.Statement.{statement}
 use Rattle.audit.proofs.groups.lowest_passing.Tie as tie
 
 abbrev Inv-loop : tie.InvT-loop
-Inv-loop words m n group row₀ row =
-    first (passing (testOf words m) (has group)) (n - row) row ≡ lowestPassing (testOf words m) n group
+Inv-loop words terms n group row₀ row =
+    first (passing (passes (boardOf words terms)) (has group)) (n - row) row ≡ lowestPassing (passes (boardOf words terms)) n group
 
 abbrev μ-loop : tie.MeasureT-loop
-μ-loop words m n group row₀ row = n - row
-
-loop-holds : tie.Need-loop-holds Inv-loop μ-loop
-loop-holds c = rw sub-zero refl
-
-member-passes-requires : tie.Need-member-passes-requires Inv-loop μ-loop
-member-passes-requires c κs = search needs
-
-add-row : tie.Need-add-row Inv-loop μ-loop
-add-row c = search needs
-
-loop-less : tie.Need-loop-less Inv-loop μ-loop
-loop-less c = search needs
+μ-loop words terms n group row₀ row = n - row
 
 loop-again : tie.Need-loop-again Inv-loop μ-loop
 loop-again c =
@@ -50,10 +40,10 @@ lowest-passing-spec =
     (tie.spec
     Inv-loop
     μ-loop
-    loop-holds
-    member-passes-requires
-    add-row
-    loop-less
+    (λ c. rw sub-zero refl)
+    (λ c κs. search needs)
+    (λ c. search needs)
+    (λ c. search needs)
     loop-again
     returns
     returns-2)

@@ -9,42 +9,29 @@ use lib.ListN.{length, getD, take, drop}
 use Rattle.rows.specs.Sets.{setOf, withoutRow}
 use Rattle.rows.specs.Table.{rowCount}
 use Rattle.rows.specs.declared.sets.Set.{Set}
+use Rattle.rows.specs.Board.{boardOf}
+use Rattle.rows.specs.TableLaws.{row-count-most}
+use Rattle.test.specs.Test.{passes}
 use Rattle.search.specs.Search.{rowsBelow, free}
 use Rattle.search.specs.Demand.{among}
-use Rattle.search.specs.Answers.{testOf}
 use Rattle.audit.specs.Audit.{lowestOf, lowestFailing}
 use Rattle.audit.specs.OrderLaws.{order-entries, left-all, left-level, test-above, used-above, lowest-up, lowest-here, levels-done, levels-fails}
 use Rattle.audit.proofs.orders.check_levels.Statement.{statement}
 use Rattle.audit.proofs.orders.check_levels.Tie as tie
 
 abbrev Inv-loop : tie.InvT-loop
-Inv-loop words m order n above₀ level₀ above level =
+Inv-loop words terms order n above₀ level₀ above level =
     (level ≤ length order) × (above ≡ setOf (free (rowsBelow (rowCount words)) (drop level order)))
-    × (lowestOf (testOf words m) order level ≡ lowestFailing (testOf words m) order)
+    × (lowestOf (passes (boardOf words terms)) order level ≡ lowestFailing (passes (boardOf words terms)) order)
 
 abbrev μ-loop : tie.MeasureT-loop
-μ-loop words m order n above₀ level₀ above level = level
-
-below-requires : tie.Need-below-requires Inv-loop μ-loop
-below-requires c κs = search needs
+μ-loop words terms order n above₀ level₀ above level = level
 
 loop-holds : tie.Need-loop-holds Inv-loop μ-loop
 loop-holds c =
     let a = c .before .before .before .args in
-    let full = order-entries (rowCount (a .words .now)) (a .order .now) (c .before .before .before .pre .1) in
+    let full = order-entries (rowCount (a .words .now)) (a .order .now) (c .before .before .before .pre) in
     (search needs, c .below .ensures ∙ rw full (left-all (rowCount (a .words .now)) (a .order .now) full), refl)
-
-sub-k : tie.Need-sub-k Inv-loop μ-loop
-sub-k c = search needs
-
-shared-slice-read-k : tie.Need-shared-slice-read-k Inv-loop μ-loop
-shared-slice-read-k c = search needs
-
-cast-k : tie.Need-cast-k Inv-loop μ-loop
-cast-k c = omega (arith, c .shared-slice-known3 .given (c .before .before .loop .level - 1))
-
-without-requires : tie.Need-without-requires Inv-loop μ-loop
-without-requires c κs = search needs
 
 -- the function's entry, from a turn of the loop
 abbrev entry : tie.At-loop Inv-loop μ-loop → tie.Start Inv-loop μ-loop
@@ -61,28 +48,16 @@ higher c =
     c .without .ensures ∙ ap (λ (s : Set). withoutRow s (getD (a .order .now) (l .loop .level - 1) 0)) (l .loop .inv .1)
     ∙ left-level (rowCount (a .words .now)) (a .order .now) (l .loop .level) (search needs) (search needs)
 
-sub-passes : tie.Need-sub-passes Inv-loop μ-loop
-sub-passes c = search needs
-
-passes-requires : tie.Need-passes-requires Inv-loop μ-loop
-passes-requires c κs = search needs
-
 -- so the test made is that of the level
 told : (c : tie.After-passes Inv-loop μ-loop)
     → let l = c .before .before .before .before in
     let a = entry l .args in
-    testOf (a .words .now) (a .m) (among (take (l .loop .level - 1) (a .order .now))) (getD (a .order .now) (l .loop .level - 1) 0) ≡ c .passes .result
+    passes (boardOf (a .words .now) (a .terms)) (among (take (l .loop .level - 1) (a .order .now))) (getD (a .order .now) (l .loop .level - 1) 0) ≡ c .passes .result
 told c =
     let l = c .before .before .before .before in
     let a = entry l .args in
     let k = getD (a .order .now) (l .loop .level - 1) 0 in
-    sym (rw (higher (c .before), test-above (a .words .now) (a .m) (a .order .now) (entry l .pre .1) (l .loop .level - 1) k) at (c .passes .ensures))
-
-sub-used : tie.Need-sub-used Inv-loop μ-loop
-sub-used c = search needs
-
-used-requires : tie.Need-used-requires Inv-loop μ-loop
-used-requires c κs = search needs
+    sym (rw (higher (c .before), test-above (boardOf (a .words .now) (a .terms)) (row-count-most _) (a .order .now) (entry l .pre) (l .loop .level - 1) k) at (c .passes .ensures))
 
 returns : tie.Need-returns Inv-loop μ-loop
 returns c =
@@ -90,24 +65,18 @@ returns c =
     let a = entry l .args in
     let k = getD (a .order .now) (l .loop .level - 1) 0 in
     let fails =
-    lowest-here (testOf (a .words .now) (a .m)) (a .order .now) (l .loop .level) (search needs)
+    lowest-here (passes (boardOf (a .words .now) (a .terms))) (a .order .now) (l .loop .level) (search needs)
     (told (c .before .before) ∙ not-true _ (c .before .if1 .taken))
     in
-    let own = rw (higher (c .before .before .before), used-above (a .words .now) (a .m) (a .order .now) (entry l .pre .1) (l .loop .level - 1) k) at (c .used .ensures) in
-    rw own (sym (levels-fails (a .words .now) (a .m) (a .order .now) (l .loop .level) (search needs) (sym (l .loop .inv .2) ∙ fails)))
-
-sub-level : tie.Need-sub-level Inv-loop μ-loop
-sub-level c = search needs
-
-loop-less : tie.Need-loop-less Inv-loop μ-loop
-loop-less c = search needs
+    let own = rw (higher (c .before .before .before), used-above (boardOf (a .words .now) (a .terms)) (row-count-most _) (a .order .now) (entry l .pre) (l .loop .level - 1) k) at (c .used .ensures) in
+    rw own (sym (levels-fails (boardOf (a .words .now) (a .terms)) (a .order .now) (l .loop .level) (search needs) (sym (l .loop .inv .2) ∙ fails)))
 
 loop-again : tie.Need-loop-again Inv-loop μ-loop
 loop-again c =
     let l = c .before .before .before .before .before in
     let a = entry l .args in
     let passes =
-    lowest-up (testOf (a .words .now) (a .m)) (a .order .now) (l .loop .level) (search needs) (told (c .before) ∙ not-false _ (c .if1 .left))
+    lowest-up (passes (boardOf (a .words .now) (a .terms))) (a .order .now) (l .loop .level) (search needs) (told (c .before) ∙ not-false _ (c .if1 .left))
     in
     (search needs, higher (c .before .before), sym passes ∙ l .loop .inv .2)
 
@@ -116,7 +85,7 @@ returns-2 c =
     let l = c .before in
     let a = entry l .args in
     let end : l .loop .level ≡ 0 = omega arith in
-    sym (levels-done (a .words .now) (a .m) (a .order .now) (sym (rw end at (l .loop .inv .2))))
+    sym (levels-done (boardOf (a .words .now) (a .terms)) (a .order .now) (sym (rw end at (l .loop .inv .2))))
 
 pub check-levels-spec : {M : Type 1} → statement M
 check-levels-spec =
@@ -124,18 +93,16 @@ check-levels-spec =
     (tie.spec
     Inv-loop
     μ-loop
-    below-requires
+    (λ c κs. search needs)
     loop-holds
-    sub-k
-    shared-slice-read-k
-    cast-k
-    without-requires
-    sub-passes
-    passes-requires
-    sub-used
-    used-requires
+    (λ c. search needs)
+    (λ c. search needs)
+    (λ c. omega (arith, c .shared-slice-known3 .given (c .before .before .loop .level - 1)))
+    (λ c κs. search needs)
+    (λ c κs. search needs)
+    (λ c κs. search needs)
     returns
-    sub-level
-    loop-less
+    (λ c. search needs)
+    (λ c. search needs)
     loop-again
     returns-2)

@@ -6,17 +6,11 @@ use borrow.Author.Needs.{needs}
 use borrow.Author.Tests.{not-true, not-false}
 use Rattle.rows.specs.Numbers.{done}
 use Rattle.rows.specs.Table.{rowCount, tableFault}
-use Rattle.rows.specs.TableLaws.{passed-valid, row-count-most}
+use Rattle.rows.specs.TableLaws.{row-count-most}
 use Rattle.audit.specs.Audit.{isOrder}
 use Rattle.audit.specs.OrderLaws.{order-refused, order-malformed, order-levels}
 use Rattle.audit.proofs.orders.check_order.Statement.{statement}
 use Rattle.audit.proofs.orders.check_order.Tie as tie
-
-check-table-requires : tie.Need-check-table-requires
-check-table-requires c κs = search needs
-
-refused-requires : tie.Need-refused-requires
-refused-requires c κs = search needs
 
 returns : tie.Need-returns
 returns c =
@@ -30,15 +24,6 @@ entry c = c .before .before .before .before .before
 passed : (c : tie.Else1) → tableFault (entry c .args .words .now) (entry c .args .m) .number ≡ done
 passed c = rw (c .before .before .check-table .ensures) at (c .if1 .left)
 
-row-count-requires : tie.Need-row-count-requires
-row-count-requires c κs = search needs
-
-is-order-requires : tie.Need-is-order-requires
-is-order-requires c κs = rw (c .row-count .ensures) (row-count-most _)
-
-refused-requires-2 : tie.Need-refused-requires-2
-refused-requires-2 c κs = search needs
-
 returns-2 : tie.Need-returns-2
 returns-2 c =
     let formed = rw (c .before .before .before .row-count .ensures) at (c .before .before .is-order .ensures) in
@@ -50,24 +35,22 @@ formed : (c : tie.Else2)
     isOrder (rowCount (a .words .now)) (a .order .now) ≡ true
 formed c = sym (rw (c .before .before .row-count .ensures) at (c .before .is-order .ensures)) ∙ not-false _ (c .if2 .left)
 
-check-levels-requires : tie.Need-check-levels-requires
-check-levels-requires c κs = (passed-valid _ _ (passed (c .before .before .before)) .some-cores, formed c)
-
 returns-3 : tie.Need-returns-3
 returns-3 c =
-    let at = c .before in
-    c .check-levels .ensures ∙ sym (order-levels _ _ _ (passed (at .before .before .before)) (formed at))
+    let at = c .before .before in
+    rw (c .before .limited .ensures) at (c .check-levels .ensures) ∙ sym (order-levels _ _ _ (passed (at .before .before .before)) (formed at))
 
 pub check-order-spec : {M : Type 1} → statement M
 check-order-spec =
     tie.close
     (tie.spec
-    check-table-requires
-    refused-requires
+    (λ c κs. search needs)
+    (λ c κs. search needs)
     returns
-    row-count-requires
-    is-order-requires
-    refused-requires-2
+    (λ c κs. search needs)
+    (λ c κs. rw (c .row-count .ensures) (row-count-most _))
+    (λ c κs. search needs)
     returns-2
-    check-levels-requires
+    (λ c κs. search needs)
+    (λ c κs. formed (c .before))
     returns-3)
