@@ -10,6 +10,7 @@ use native.Mathlib.Omega.{arith}
 use lib.Dec.{leb}
 use lib.ListN.{length, take, drop}
 use borrow.Author.Tests.{le-leb, lt-leb, leb-true, leb-false}
+use Rattle.rows.specs.Board.{limited}
 use Rattle.rows.specs.BoolLaws.{either}
 use Rattle.rows.specs.Judge.{Check, check, judge}
 use Rattle.rows.specs.Numbers.{done, blocked, short-output}
@@ -79,7 +80,7 @@ module _ (b out : List ℕ) where
 
     module _ (l : length b ≤ length out) where
       -- the work: the search's number, and the book with the search's verdict
-      pub host-searched : (hostNumber b (length out) ≡ foundOf (tableOf b) (coresOf b) 96 .number)
+      pub host-searched : (hostNumber b (length out) ≡ foundOf (tableOf b) (limited (coresOf b)) 96 .number)
           × (hostInto b out ≡ searched (tableOf b) (coresOf b) ++ drop (length b) out)
       unfolding hostNumber hostInto
       host-searched =
@@ -133,7 +134,7 @@ handed-fits b words r h room l = rw (h .table, h .cores, ← h .size) (h .fair, 
 -- the work, told of the words that reading handed over
 pub handed-searched : (b words : List ℕ) (r : BookRead) → Handed b 288 words r → (out : List ℕ) → length b ≤ length out
     → let t = take (3 * r .n) words in
-    (foundOf t (r .m) 96 .number ≡ hostNumber b (length out))
+    (foundOf t (limited (r .m)) 96 .number ≡ hostNumber b (length out))
     × (searched t (r .m) ++ drop (512 * blocks editionOne (rowCount t)) out ≡ hostInto b out)
 handed-searched b words r h out l =
     let work = host-searched b out (h .read) l in

@@ -11,6 +11,7 @@ use lib.Dec.{eqb, ltb}
 use lib.ListN.{length, getD, take, drop, replicate, length-append, length-drop, getD-replicate}
 use lib.Seq.{take-suc, take-take, take-at, split-at, getD-take, getD-append-add, getD-drop, length-take-le}
 use borrow.Author.Tests.{eq-eqb, lt-ltb, le-ltb, ltb-true, ltb-false}
+use Rattle.rows.specs.Board.{boardOf, limited}
 use Rattle.rows.specs.BoolLaws.{either, and-in}
 use Rattle.rows.specs.Numbers.{done, blocked}
 use Rattle.rows.specs.Sums.{on, times}
@@ -100,37 +101,40 @@ unfolding blanks
 blanks-length = refl
 
 module _ (words : List ℕ) (m : ℕ) (fair : tableFault words m .number ≡ done) where
+  abbrev placed : List ℕ
+  placed = placedOf (boardOf words (limited m))
+
   most : rowCount words ≤ 96
   most = row-count-most words
 
   -- every row is placed, or some are left
-  placed-cases : (length (placedOf words m) ≡ rowCount words) ⊎ (length (placedOf words m) < rowCount words)
-  placed-cases = eq-or-lt-of-le (placed-most words m)
+  placed-cases : (length placed ≡ rowCount words) ⊎ (length placed < rowCount words)
+  placed-cases = eq-or-lt-of-le (placed-most (boardOf words (limited m)))
 
-  demanded : Demanded words m (foundOf words m 96) (writtenOf words m blanks)
+  demanded : Demanded (boardOf words (limited m)) (foundOf words (limited m) 96) (writtenOf words (limited m) blanks)
   unfolding blanks
-  demanded = found-demanded words m blanks
+  demanded = found-demanded words (limited m) blanks
 
-  module _ (e : length (placedOf words m) ≡ rowCount words) where
-    number-done : foundOf words m 96 .number ≡ done
-    number-done = ap (λ (r : Found). r .number) (found-done words m 96 fair most e)
+  module _ (e : length placed ≡ rowCount words) where
+    number-done : foundOf words (limited m) 96 .number ≡ done
+    number-done = ap (λ (r : Found). r .number) (found-done words (limited m) 96 fair most e)
 
     ordered : List ℕ
-    ordered = placedOf words m ++ drop (rowCount words) blanks
+    ordered = placed ++ drop (rowCount words) blanks
 
     verdict-done : verdictBy words m ≡ record { kind = 1; order = ordered; group = none }
     unfolding verdictBy blanks ordered
-    verdict-done = rw (written-order words m blanks number-done, found-done words m 96 fair most e) refl
+    verdict-done = rw (written-order words (limited m) blanks number-done, found-done words (limited m) 96 fair most e) refl
 
     ordered-length : length ordered ≡ 96
     unfolding ordered
     ordered-length =
-        omega (arith, length-append (placedOf words m) (drop (rowCount words) blanks), length-drop (rowCount words) blanks, blanks-length, most)
+        omega (arith, length-append placed (drop (rowCount words) blanks), length-drop (rowCount words) blanks, blanks-length, most)
 
     ordered-blank : (i : ℕ) → rowCount words ≤ i → i < 96 → getD ordered i 0 ≡ 255
     unfolding ordered
     ordered-blank i h l =
-        let p = placedOf words m in
+        let p = placed in
         let at : length p + (i - length p) ≡ i = omega arith in
         let back : rowCount words + (i - length p) ≡ i = omega arith in
         rw at at (getD-append-add p (drop (rowCount words) blanks) (i - length p) 0)
@@ -140,34 +144,34 @@ module _ (words : List ℕ) (m : ℕ) (fair : tableFault words m .number ≡ don
     unfolding ordered
     ordered-formed =
         let n = rowCount words in
-        let begins : take n ordered ≡ placedOf words m = take-at (placedOf words m) (drop n blanks) n e in
+        let begins : take n ordered ≡ placed = take-at placed (drop n blanks) n e in
         rw verdict-done
         (formed-done n ordered
         (order-fits n ordered (omega (arith, ordered-length, most)) (rw begins (demanded .orders number-done)) ordered-blank))
 
-  module _ (l : length (placedOf words m) < rowCount words) where
+  module _ (l : length placed < rowCount words) where
     left : Set
-    left = setOf (free (rowsBelow (rowCount words)) (placedOf words m))
+    left = setOf (free (rowsBelow (rowCount words)) placed)
 
-    number-blocked : foundOf words m 96 .number ≡ blocked
-    number-blocked = ap (λ (r : Found). r .number) (found-blocked words m 96 fair most l)
+    number-blocked : foundOf words (limited m) 96 .number ≡ blocked
+    number-blocked = ap (λ (r : Found). r .number) (found-blocked words (limited m) 96 fair most l)
 
     verdict-blocked : verdictBy words m ≡ record { kind = 2; order = blanks; group = left }
     unfolding verdictBy blanks left
-    verdict-blocked = rw (written-same words m blanks (λ z. omega (arith, number-blocked)), found-blocked words m 96 fair most l) refl
+    verdict-blocked = rw (written-same words (limited m) blanks (λ z. omega (arith, number-blocked)), found-blocked words (limited m) 96 fair most l) refl
 
-    left-has : (i : ℕ) → has left i ≡ free (rowsBelow (rowCount words)) (placedOf words m) i
+    left-has : (i : ℕ) → has left i ≡ free (rowsBelow (rowCount words)) placed i
     unfolding left
-    left-has i = has-unplaced (rowCount words) (placedOf words m) i most
+    left-has i = has-unplaced (rowCount words) placed i most
 
     left-some : word left ≡ 0 → ⊥
     left-some z =
         let n = rowCount words in
         let dom = rowsBelow n in
-        let none-left : (i : ℕ) → i < n → free dom (placedOf words m) i ≡ false =
+        let none-left : (i : ℕ) → i < n → free dom placed i ≡ false =
         λ i h. sym (left-has i) ∙ within-iff left 0 .0 (lt-ltb (word left) 1 (omega arith)) i zero-le
         in
-        omega (arith, count-zero-iff n (free dom (placedOf words m)) .1 none-left, demanded .truth .size, rows-count n)
+        omega (arith, count-zero-iff n (free dom placed) .1 none-left, demanded .truth .size, rows-count n)
 
     left-within : within left (rowCount words) ≡ true
     unfolding free
@@ -186,12 +190,12 @@ module _ (words : List ℕ) (m : ℕ) (fair : tableFault words m .number ≡ don
   unfolding left
   verdict-typed =
       ⊎-elim (λ e. rw (verdict-done e) (record { order = ordered-length e; group = (omega arith, omega arith) }))
-      (λ l. rw (verdict-blocked l) (record { order = blanks-length; group = set-of-fits (free (rowsBelow (rowCount words)) (placedOf words m)) }))
+      (λ l. rw (verdict-blocked l) (record { order = blanks-length; group = set-of-fits (free (rowsBelow (rowCount words)) placed) }))
       placed-cases
 
   -- 0 with verdict 1, 4 with verdict 2
-  pub verdict-kind : ((foundOf words m 96 .number ≡ done) × (verdictBy words m .kind ≡ 1))
-      ⊎ ((foundOf words m 96 .number ≡ blocked) × (verdictBy words m .kind ≡ 2))
+  pub verdict-kind : ((foundOf words (limited m) 96 .number ≡ done) × (verdictBy words m .kind ≡ 1))
+      ⊎ ((foundOf words (limited m) 96 .number ≡ blocked) × (verdictBy words m .kind ≡ 2))
   verdict-kind =
       ⊎-elim (λ e. inl (number-done e, ap (λ (v : Verdict). v .kind) (verdict-done e)))
       (λ l. inr (number-blocked l, ap (λ (v : Verdict). v .kind) (verdict-blocked l)))

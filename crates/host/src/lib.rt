@@ -3,6 +3,7 @@ ghost use mathlib.Core.Path.{_≡_};
 ghost use mathlib.Core.List.{_++_};
 ghost use Prim.Native.Nat.{_*_, _≤_};
 ghost use lib.ListN.{length, drop};
+ghost use Rattle.rows.specs.Board.{limited};
 ghost use Rattle.rows.specs.Numbers.{done};
 ghost use Rattle.rows.specs.Table.{rowCount, tableFault};
 ghost use Rattle.search.specs.Answers.{foundOf};
@@ -14,7 +15,7 @@ use rows::numbers;
 // Searches a table that passed its checks and writes its book with the search's verdict. Later bytes stay.
 fn search_into(words: &[u32], m: u32, out: &mut [u8]) -> u32
     requires { ⌜ (tableFault (now words) m .number ≡ done) × (512 * blocks editionOne (rowCount (now words)) ≤ length (now out)) ⌝ }
-    ensures number { λ r. ⌜ r ≡ foundOf (now (words .entry)) m 96 .number ⌝ }
+    ensures number { λ r. ⌜ r ≡ foundOf (now (words .entry)) (limited m) 96 .number ⌝ }
     ensures bytes { λ _. ⌜ now (out .exit) ≡ searched (now (words .entry)) m ++ drop (512 * blocks editionOne (rowCount (now (words .entry)))) (now (out .entry)) ⌝ }
 {
     let mut order = [255u8; 96];

@@ -9,6 +9,7 @@ use lib.Dec.{eqb}
 use lib.ListN.{replicate}
 use borrow.Author.Needs.{needs}
 use borrow.Author.Tests.{eq-eqb, ne-eqb}
+use Rattle.rows.specs.Board.{limited}
 use Rattle.rows.specs.Numbers.{done}
 use Rattle.search.specs.Answers.{foundOf, writtenOf}
 use Rattle.search.specs.declared.call.Found.{Found}
@@ -19,22 +20,10 @@ use Rattle.host.specs.HostLaws.{searched-written}
 use Rattle.host.proofs.search_into.Statement.{statement}
 use Rattle.host.proofs.search_into.Tie as tie
 
-verdict-is : (words : List ℕ) (m kind : ℕ) (order : List ℕ) (r : Found) → r ≡ foundOf words m 96 → order ≡ writtenOf words m (replicate 96 255)
+verdict-is : (words : List ℕ) (m kind : ℕ) (order : List ℕ) (r : Found) → r ≡ foundOf words (limited m) 96 → order ≡ writtenOf words (limited m) (replicate 96 255)
     → kind ≡ cond (eqb (r .number) done) 1 2 → record { kind = kind; order = order; group = r .group } ≡ verdictBy words m
 unfolding verdictBy
 verdict-is words m kind order r e w k = rw (k, w, e) refl
-
-slice-aggregate-search : tie.Need-slice-aggregate-search
-slice-aggregate-search c = search needs
-
-search-requires : tie.Need-search-requires
-search-requires c κs = search needs
-
-write-requires : tie.Need-write-requires
-write-requires c κs = search needs
-
-same-length : tie.Need-same-length
-same-length c = search needs
 
 returns : tie.Need-returns
 returns c =
@@ -54,4 +43,4 @@ returns c =
 
 pub search-into-spec : {M : Type 1} → statement M
 search-into-spec =
-    tie.close (tie.spec slice-aggregate-search search-requires write-requires same-length returns)
+    tie.close (tie.spec (λ c. search needs) (λ c κs. search needs) (λ c κs. search needs) (λ c. search needs) returns)
