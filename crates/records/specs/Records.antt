@@ -5,6 +5,7 @@ use mathlib.Core.Bool.{cond}
 use mathlib.Core.List.{List, [], _∷_}
 use lib.Dec.{leb, ltb}
 use lib.ListN.{set, replicate, take}
+use Rattle.rows.specs.Board.{limited}
 use Rattle.rows.specs.Numbers.{table-length}
 use Rattle.search.specs.Answers.{refusal, foundOf, writtenOf}
 use Rattle.search.specs.declared.call.Found.{Found}
@@ -49,7 +50,7 @@ wordsOf table = take (3 * table .rows) (table .words)
 
 -- the answer and the output afterwards: more than 96 rows are refused, else those of the search
 unfoldable pub foundIn : Flat → ℕ → ℕ → Found
-foundIn table m room = cond (ltb 96 (table .rows)) (refusal table-length 0) (foundOf (wordsOf table) m room)
+foundIn table m room = cond (ltb 96 (table .rows)) (refusal table-length 0) (foundOf (wordsOf table) (limited m) room)
 
 unfoldable pub writtenIn : Flat → ℕ → List ℕ → List ℕ
-writtenIn table m out = cond (ltb 96 (table .rows)) out (writtenOf (wordsOf table) m out)
+writtenIn table m out = cond (ltb 96 (table .rows)) out (writtenOf (wordsOf table) (limited m) out)

@@ -12,6 +12,7 @@ use lib.Dec.{leb, ltb, eqb}
 use lib.ListN.{length, getD, set, take, drop, length-set, length-replicate}
 use lib.Seq.{drop-cons, drop-length}
 use borrow.Author.Tests.{ltb-true, ltb-false, lt-ltb, le-ltb, leb-true, leb-false, le-leb, lt-leb}
+use Rattle.rows.specs.Board.{limited}
 use Rattle.rows.specs.BoolLaws.{either, and-fails}
 use Rattle.rows.specs.Numbers.{table-length}
 use Rattle.rows.specs.Table.{tableFault}
@@ -39,14 +40,14 @@ module _ (tasks : List Task) (m : ℕ) (h : 96 < length tasks) where
       fault-length (flat tasks) m
       (and-fails (eqb (length (flat tasks) % 3) 0) (leb (length (flat tasks) / 3) 96) (inr (lt-leb (length (flat tasks) / 3) 96 many)))
 
-  pub flat-refused : (room : ℕ) → foundOf (flat tasks) m room ≡ refusal table-length 0
+  pub flat-refused : (room : ℕ) → foundOf (flat tasks) (limited m) room ≡ refusal table-length 0
   flat-refused room =
-      found-refused (flat tasks) m room (λ e. let z = ap (λ (r : Checked). r .number) flat-fault in absurd (omega arith))
+      found-refused (flat tasks) (limited m) room (λ e. let z = ap (λ (r : Checked). r .number) flat-fault in absurd (omega arith))
       ∙ ap (λ (r : Checked). refusal (r .number) (r .row)) flat-fault
 
-  pub flat-written : (out : List ℕ) → writtenOf (flat tasks) m out ≡ out
+  pub flat-written : (out : List ℕ) → writtenOf (flat tasks) (limited m) out ≡ out
   flat-written out =
-      written-same (flat tasks) m out (λ e. let z = ap (λ (r : Found). r .number) (flat-refused (length out)) in absurd (omega arith))
+      written-same (flat tasks) (limited m) out (λ e. let z = ap (λ (r : Found). r .number) (flat-refused (length out)) in absurd (omega arith))
 
 -- ---- the copy, row by row
 
@@ -146,7 +147,7 @@ copy-many tasks h = add-many noRows tasks (omega (arith, h))
 -- ---- the answers are those of the flat words
 
 module _ (tasks : List Task) (m : ℕ) where
-  pub found-copy : (room : ℕ) → foundIn (copyOf tasks) m room ≡ foundOf (flat tasks) m room
+  pub found-copy : (room : ℕ) → foundIn (copyOf tasks) m room ≡ foundOf (flat tasks) (limited m) room
   unfolding foundIn
   found-copy room =
       ⊎-elim
@@ -158,7 +159,7 @@ module _ (tasks : List Task) (m : ℕ) where
       rw (copy-rows tasks few, le-ltb 96 (length tasks) few, copy-words tasks few) refl)
       (either (ltb 96 (length tasks)))
 
-  pub written-copy : (out : List ℕ) → writtenIn (copyOf tasks) m out ≡ writtenOf (flat tasks) m out
+  pub written-copy : (out : List ℕ) → writtenIn (copyOf tasks) m out ≡ writtenOf (flat tasks) (limited m) out
   unfolding writtenIn
   written-copy out =
       ⊎-elim

@@ -1,6 +1,7 @@
 // The search over a lent list of task records, for callers in Rattle, C and Rust.
 ghost use mathlib.Core.Path.{_≡_};
 ghost use lib.ListN.{length};
+ghost use Rattle.rows.specs.Board.{limited};
 ghost use Rattle.search.specs.Answers.{foundOf, writtenOf};
 ghost use Rattle.records.specs.Records.{flat, noRows, add, copyOf, foundIn, writtenIn};
 use rows::Set;
@@ -81,8 +82,8 @@ fn search_copy(table: Flat, m: u32, out: &mut [u8]) -> Found
 // again, so these three have C's layout.
 #[no_mangle]
 pub extern "C" fn heralinda_search_records(tasks: &[Task], m: u32, out: &mut [u8]) -> Found
-    ensures { λ r. ⌜ r ≡ foundOf (flat (now (tasks .entry))) m (length (now (out .entry))) ⌝ }
-    ensures { λ r. ⌜ now (out .exit) ≡ writtenOf (flat (now (tasks .entry))) m (now (out .entry)) ⌝ }
+    ensures { λ r. ⌜ r ≡ foundOf (flat (now (tasks .entry))) (limited m) (length (now (out .entry))) ⌝ }
+    ensures { λ r. ⌜ now (out .exit) ≡ writtenOf (flat (now (tasks .entry))) (limited m) (now (out .entry)) ⌝ }
 {
     search_copy(copied(tasks), m, out)
 }

@@ -36,6 +36,7 @@ use denote.Triple.Table.{entered, cited}
 use denote.Triple.Walked.{says, Stays, stay-none-slice, stay-none, gave-slice, walkOf, Walks, onExit, ends-at, walked, goes-none-slice, goes-none, goes-gave-slice, walk-meets}
 use denote.Triple.Clauses.{ensured, lasts}
 use denote.Exit.{yes}
+use Rattle.rows.specs.Board.{limited}
 use Rattle.search.specs.Answers.{foundOf, writtenOf}
 use Rattle.search.specs.declared.call.Found.{Found}
 use Rattle.search.proofs.call.Found as G
@@ -138,12 +139,12 @@ module _ {M : Type 1} (𝓤 : URA M) (H : Heap 𝓤) (A : Atoms 𝓤) (W : Given
   abbrev Written : Flat → List ℕ → Type 0
   Written s bytes = bytes ≡ writtenIn s m (y .now)
 
-  exits : (r : Found) (u : Val) (bytes : List ℕ) → r ≡ foundOf (flat (x .now)) m (length (y .now)) → bytes ≡ writtenOf (flat (x .now)) m (y .now) → length bytes ≡ length (y .now)
+  exits : (r : Found) (u : Val) (bytes : List ℕ) → r ≡ foundOf (flat (x .now)) (limited m) (length (y .now)) → bytes ≡ writtenOf (flat (x .now)) (limited m) (y .now) → length bytes ≡ length (y .now)
       → ent 𝓤 (⋆ 𝓤 H A (‵ (O .own r (u ∷ [])) ∷ out-token ∷ ‵ (finally u8 (y .name) bytes) ∷ tasks-token ∷ ‵ Tasks ∷ [])) (Post u)
   exits r u bytes e f l =
       qed W (‵ (O .own r (u ∷ [])) ∷ out-token ∷ ‵ (finally u8 (y .name) bytes) ∷ tasks-token ∷ ‵ Tasks ∷ []) ∵
       suffices ! _ (ends-at 𝓤 H A entry.ended stayed (entry.clauses 𝓤 H A mem run) W bound u r (tt, (tt, (bytes, tt))) (tt, (tt, (l, tt)))) $
-      suffices ! _ (assoc∗ 𝓤 (onExit 𝓤 H A entry.ended stayed (κ, (μ, tt)) (q, (p, tt)) at u r (x, (m, (y, tt))) (tt, (tt, (bytes, tt)))) (fact 𝓤 (r ≡ foundOf (flat (x .now)) m (length (y .now)))) (fact 𝓤 (bytes ≡ writtenOf (flat (x .now)) m (y .now)))) $
+      suffices ! _ (assoc∗ 𝓤 (onExit 𝓤 H A entry.ended stayed (κ, (μ, tt)) (q, (p, tt)) at u r (x, (m, (y, tt))) (tt, (tt, (bytes, tt)))) (fact 𝓤 (r ≡ foundOf (flat (x .now)) (limited m) (length (y .now)))) (fact 𝓤 (bytes ≡ writtenOf (flat (x .now)) (limited m) (y .now)))) $
       says ! f $ says ! e $
       -- the tokens
       move ! (3 ∷ []) $ split ! $ move ! (0 ∷ 3 ∷ []) $ join ! $ frame ! $
