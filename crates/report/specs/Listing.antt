@@ -1,10 +1,11 @@
 -- The listing of a book (document 01, "Listing"), as a list of byte values.
 -- Assumes nothing.
-use Prim.Native.Nat.{ℕ, _+_, _*_, _-_, _/_}
+use Prim.Native.Nat.{ℕ, _+_, _*_, _/_}
 use mathlib.Core.Bool.{Bool, cond}
 use mathlib.Core.List.{List, [], _∷_, _++_}
 use lib.Dec.{eqb}
 use lib.ListN.{length, getD, take}
+use Rattle.rows.specs.Board.{boardOf, limited}
 use Rattle.rows.specs.Judge.{judge}
 use Rattle.rows.specs.Numbers.{done}
 use Rattle.rows.specs.Sums.{sum}
@@ -94,7 +95,7 @@ rowText k row uses =
 
 -- row k with the rows of H above it
 unfoldable pub rowLine : List ℕ → ℕ → (ℕ → Bool) → ℕ → List ℕ
-rowLine words m H k = rowText k (table words k) (used (rowCount words) (table words) m (m - 1) H k)
+rowLine words m H k = rowText k (table words k) (used (boardOf words (limited m)) H k)
 
 -- the same with its level in front
 abbrev pub atLevel : ℕ → List ℕ → List ℕ
@@ -113,8 +114,8 @@ memberLine words m G i = let line = rowLine words m (without G i) i in cond (G i
 -- of a table: the order that the search finds, or the group that it leaves
 unfoldable pub listed : List ℕ → ℕ → List ℕ
 listed words m =
-    let found = foundOf words m 96 in
-    let order = placedOf words m in
+    let found = foundOf words (limited m) 96 in
+    let order = placedOf (boardOf words (limited m)) in
     let levels = header order-word words m (found .tests) ++ lines (length order) (levelLine words m order) in
     let members = header blocked-word words m (found .tests) ++ lines (rowCount words) (memberLine words m (has (found .group))) in
     cond (eqb (found .number) done) levels members

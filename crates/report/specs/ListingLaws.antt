@@ -1,6 +1,6 @@
 -- Laws of the listing: its lines by the masks that the code holds, the listing of a table by what the search answers, and of a book by what reading answers.
 -- Assumes nothing.
-use Prim.Native.Nat.{ℕ, zero, suc, _+_, _*_, _-_, _/_, _≤_, _<_}
+use Prim.Native.Nat.{ℕ, zero, suc, _+_, _*_, _/_, _≤_, _<_}
 use mathlib.Core.Path.{_≡_, refl, sym, ap, _∙_}
 use mathlib.Core.Logic.{_⊎_, inl, inr, ⊎-elim}
 use mathlib.Core.Bool.{Bool, true, false, _||_}
@@ -12,6 +12,7 @@ use lib.Dec.{eqb}
 use lib.ListN.{length, getD, take}
 use lib.Seq.{take-suc}
 use borrow.Author.Tests.{eq-eqb, ne-eqb}
+use Rattle.rows.specs.Board.{boardOf, limited}
 use Rattle.rows.specs.Judge.{Check, judge}
 use Rattle.rows.specs.Numbers.{done, blocked}
 use Rattle.rows.specs.Sets.{has, mask, setOf, none, withRow, withoutRow, without}
@@ -42,7 +43,7 @@ module _ (words : List ℕ) (m : ℕ) where
   row-ext H G k same =
       let t = table words in
       ap (rowText k (t k))
-      (used-ext (rowCount words) t t H G (λ i l. same i (omega (arith, row-count-most words))) (λ i l e. refl) m (m - 1) k refl)
+      (used-ext (boardOf words (limited m)) t H G (λ i l. same i (omega (arith, row-count-most words))) (λ i l e. refl) k refl)
 
   -- the rows above as a mask
   pub level-line : (order : List ℕ) (j : ℕ)
@@ -89,9 +90,10 @@ next-above order j h =
 
 -- ---- the listing of a table by what the search answers
 
-module _ (words : List ℕ) (m : ℕ) (found : Found) (e : found ≡ foundOf words m 96) where
+module _ (words : List ℕ) (m : ℕ) (found : Found) (e : found ≡ foundOf words (limited m) 96) where
   pub listed-order : found .number ≡ done
-      → listed words m ≡ header order-word words m (found .tests) ++ lines (length (placedOf words m)) (levelLine words m (placedOf words m))
+      → (let order = placedOf (boardOf words (limited m)) in
+      listed words m ≡ header order-word words m (found .tests) ++ lines (length order) (levelLine words m order))
   unfolding listed
   listed-order h = rw (← e, eq-eqb (found .number) done h) refl
 
@@ -187,14 +189,15 @@ listing-read b words r h = rw (h .table, h .cores) (go (listing-cases b))
 
 -- of a book that was read the search answers 0 or 4, so that BLOCKED stands for 4 alone
 pub searched : (b : List ℕ) → readOf b 288 .number ≡ done
-    → let found = foundOf (content editionOne b .table) (content editionOne b .m) 96 in (found .number ≡ done) ⊎ (found .number ≡ blocked)
+    → let found = foundOf (content editionOne b .table) (limited (content editionOne b .m)) 96 in (found .number ≡ done) ⊎ (found .number ≡ blocked)
 searched b h =
     let fair = read-handed b h .fair in
     let words = content editionOne b .table in
     let m = content editionOne b .m in
+    let placed = placedOf (boardOf words (limited m)) in
     ⊎-elim
-    (λ (e : length (placedOf words m) ≡ rowCount words).
-    inl (ap (λ (f : Found). f .number) (found-done words m 96 fair (row-count-most words) e)))
-    (λ (l : length (placedOf words m) < rowCount words).
-    inr (ap (λ (f : Found). f .number) (found-blocked words m 96 fair (row-count-most words) l)))
-    (eq-or-lt-of-le (placed-most words m))
+    (λ (e : length placed ≡ rowCount words).
+    inl (ap (λ (f : Found). f .number) (found-done words (limited m) 96 fair (row-count-most words) e)))
+    (λ (l : length placed < rowCount words).
+    inr (ap (λ (f : Found). f .number) (found-blocked words (limited m) 96 fair (row-count-most words) l)))
+    (eq-or-lt-of-le (placed-most (boardOf words (limited m))))

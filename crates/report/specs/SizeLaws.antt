@@ -1,6 +1,6 @@
 -- How long a listing is: the text of any book fits an output of 8,192 bytes.
 -- Assumes nothing.
-use Prim.Native.Nat.{ℕ, zero, suc, _+_, _-_, _^_, _≤_, _<_}
+use Prim.Native.Nat.{ℕ, zero, suc, _+_, _^_, _≤_, _<_}
 use mathlib.Core.Path.{_≡_, refl}
 use mathlib.Core.Logic.{⊎-elim}
 use mathlib.Core.Bool.{Bool, true, false, _||_}
@@ -10,6 +10,8 @@ use native.Mathlib.Nat.{div-le-self, div-le-of-le-mul, mul-le-mul-right}
 use lib.Dec.{eqb}
 use lib.ListN.{length, getD, take, replicate, length-append, length-replicate}
 use borrow.Author.Tests.{eqb-true, eq-eqb, ltb-true}
+use Rattle.rows.specs.declared.terms.Terms.{Terms}
+use Rattle.rows.specs.Board.{boardOf, limited}
 use Rattle.rows.specs.BoolLaws.{either}
 use Rattle.rows.specs.Numbers.{done}
 use Rattle.rows.specs.Sets.{has, without}
@@ -24,6 +26,7 @@ use Rattle.search.specs.Demand.{among}
 use Rattle.search.specs.Answers.{placedOf, foundOf, writtenOf, Demanded}
 use Rattle.search.specs.OrderLaws.{elem-times}
 use Rattle.search.specs.CallLaws.{placed-most, found-demanded}
+use Rattle.search.specs.declared.call.Found.{Found}
 use Rattle.book.specs.Layout.{editionOne}
 use Rattle.book.specs.Read.{content, readOf}
 use Rattle.report.specs.TextLaws.{decimal-short, lines-most}
@@ -56,12 +59,12 @@ load-most : (words : List ℕ) → load words ≤ 96_000
 unfolding load
 load-most words = omega (arith, sum-bound (rowCount words) 1000 (share words) (λ i l. share-most words i), row-count-most words)
 
-used-most : (words : List ℕ) (m c : ℕ) (H : ℕ → Bool) (k : ℕ) → used (rowCount words) (table words) m c H k < 10 ^ 12
+used-most : (words : List ℕ) (terms : Terms) (H : ℕ → Bool) (k : ℕ) → used (boardOf words terms) H k < 10 ^ 12
 unfolding used
-used-most words m c H k =
+used-most words terms H k =
     let row = modest words k in
-    let total = interference-fits (rowCount words) (table words) c H (table words k) (row-count-most words) (omega (arith, row .constrained, row .short)) in
-    omega (arith, total, div-le-self (interference (rowCount words) (table words) c H (table words k)) m, row .within, row .short)
+    let total = interference-fits (boardOf words terms) H (table words k) (row-count-most words) (omega (arith, row .constrained, row .short)) in
+    omega (arith, total, div-le-self (interference (boardOf words terms) H (table words k)) (terms .m), row .within, row .short)
 
 -- ---- the lines
 
@@ -77,7 +80,7 @@ module _ (words : List ℕ) (m : ℕ) where
         decimal-short 7 (table words k .c) (omega (arith, row .within, row .short)),
         decimal-short 7 (table words k .d) (omega (arith, row .constrained, row .short)),
         decimal-short 7 (table words k .t) (omega (arith, row .short)),
-        decimal-short 11 (used (rowCount words) (table words) m (m - 1) H k) (used-most words m (m - 1) H k),
+        decimal-short 11 (used (boardOf words (limited m)) H k) (used-most words (limited m) H k),
       ))
 
   level-most : (order : List ℕ) (j : ℕ) → j < 96 → getD order j 0 < 100 → length (levelLine words m order j) ≤ 61
@@ -113,37 +116,42 @@ elem-at (x ∷ p) (suc j) h = rw (elem-at p j (omega arith)) (or-true (eqb (getD
     or-true false = refl
 
 module _ (words : List ℕ) (m : ℕ) where
-  demanded : Demanded words m (foundOf words m 96) (writtenOf words m (replicate 96 255))
-  demanded = rw (length-replicate {A = ℕ} 96 255) at (found-demanded words m (replicate 96 255))
+  abbrev placed : List ℕ
+  placed = placedOf (boardOf words (limited m))
 
-  tests-most : foundOf words m 96 .tests < 10_000
+  abbrev found : Found
+  found = foundOf words (limited m) 96
+
+  demanded : Demanded (boardOf words (limited m)) found (writtenOf words (limited m) (replicate 96 255))
+  demanded = rw (length-replicate {A = ℕ} 96 255) at (found-demanded words (limited m) (replicate 96 255))
+
+  tests-most : found .tests < 10_000
   tests-most =
       let most = row-count-most words in
       omega (arith, demanded .bounded, mul-le-mul-right (suc (rowCount words)) most)
 
   -- an order holds rows of the table only
-  order-most : foundOf words m 96 .number ≡ done → (j : ℕ) → j < length (placedOf words m) → getD (placedOf words m) j 0 < rowCount words
+  order-most : found .number ≡ done → (j : ℕ) → j < length placed → getD placed j 0 < rowCount words
   order-most e j h =
-      let k = getD (placedOf words m) j 0 in
-      let once = elem-times k (placedOf words m) (elem-at (placedOf words m) j h) in
+      let k = getD placed j 0 in
+      let once = elem-times k placed (elem-at placed j h) in
       ltb-true k (rowCount words) (on-true (rowsBelow (rowCount words) k) (omega (arith, once, demanded .orders e k)))
 
   pub listed-most : m ≤ 32 → length (listed words m) ≤ 8192
   unfolding listed
   listed-most h =
       let most = row-count-most words in
-      let tests = foundOf words m 96 .tests in
-      let order = placedOf words m in
+      let tests = found .tests in
       ⊎-elim
-      (λ (e : eqb (foundOf words m 96 .number) done ≡ true).
-      let rows = order-most (eqb-true (foundOf words m 96 .number) done e) in
-      let levels = lines-most (length order) 61 (levelLine words m order) (λ j l. level-most words m order j (omega (arith, placed-most words m)) (omega (arith, rows j l))) in
-      rw (e, length-append) (omega (arith, header-most words m order-word tests (omega arith) h tests-most, levels, placed-most words m)))
-      (λ (e : eqb (foundOf words m 96 .number) done ≡ false).
-      let G = has (foundOf words m 96 .group) in
+      (λ (e : eqb (found .number) done ≡ true).
+      let rows = order-most (eqb-true (found .number) done e) in
+      let levels = lines-most (length placed) 61 (levelLine words m placed) (λ j l. level-most words m placed j (omega (arith, placed-most (boardOf words (limited m)))) (omega (arith, rows j l))) in
+      rw (e, length-append) (omega (arith, header-most words m order-word tests (omega arith) h tests-most, levels, placed-most (boardOf words (limited m)))))
+      (λ (e : eqb (found .number) done ≡ false).
+      let G = has (found .group) in
       let members = lines-most (rowCount words) 61 (memberLine words m G) (λ i l. member-most words m G i (omega arith)) in
       rw (e, length-append) (omega (arith, header-most words m blocked-word tests (omega arith) h tests-most, members)))
-      (either (eqb (foundOf words m 96 .number) done))
+      (either (eqb (found .number) done))
 
 pub refused-most : (number : ℕ) → number < 10 ^ 10 → length (refusedText number) ≤ 19
 refused-most number h = simp length-append (omega (arith, decimal-short 9 number h))

@@ -65,7 +65,7 @@ fn put_row(words: &[u32], m: u32, above: Set, k: usize, out: &mut [u8], at: usiz
     ensures { λ r. ⌜ Puts (now (out .entry)) at (rowLine (now (words .entry)) m (has above) k) (now (out .exit)) r ⌝ }
 {
     let row = rows::row_at(words, k);
-    let used = test::used(words, m, m - 1, above, k);
+    let used = test::used(words, rows::limited(m), above, k);
     let mut end = put_field(b"row=", k as u64, out, at);
     end = put_field(b" C=", row.c as u64, out, end);
     end = put_field(b" D=", row.d as u64, out, end);

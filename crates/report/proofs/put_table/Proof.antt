@@ -7,6 +7,7 @@ use native.Mathlib.Omega.{arith}
 use lib.ListN.{length, take, length-replicate}
 use lib.Seq.{length-take-le}
 use borrow.Author.Needs.{needs}
+use Rattle.rows.specs.Board.{boardOf, limited}
 use Rattle.rows.specs.Sets.{has}
 use Rattle.rows.specs.Table.{rowCount}
 use Rattle.rows.specs.TableLaws.{row-count-most}
@@ -22,7 +23,7 @@ use Rattle.report.proofs.put_table.Tie as tie
 abbrev entry : tie.After-search → tie.Start
 entry c = c .before .before .before .before
 
-found : (c : tie.After-search) → c .search .result ≡ foundOf (entry c .args .words .now) (entry c .args .m) 96
+found : (c : tie.After-search) → c .search .result ≡ foundOf (entry c .args .words .now) (limited (entry c .args .m)) 96
 found c = rw (length-replicate {A = ℕ} 96 255) at (c .search .ensures .0)
 
 room : (c : tie.After-search) → Room 0 (listed (entry c .args .words .now) (entry c .args .m))
@@ -33,7 +34,7 @@ ordered : (c : tie.Then1)
     → let a = entry (c .before .before .before) .args in
     listed (a .words .now) (a .m)
     ≡ header order-word (a .words .now) (a .m) (c .before .before .before .search .result .tests)
-    ++ lines (length (placedOf (a .words .now) (a .m))) (levelLine (a .words .now) (a .m) (placedOf (a .words .now) (a .m)))
+    ++ lines (length (placedOf (boardOf (a .words .now) (limited (a .m))))) (levelLine (a .words .now) (a .m) (placedOf (boardOf (a .words .now) (limited (a .m)))))
 ordered c = listed-order _ _ _ (found (c .before .before .before)) (c .if1 .taken)
 
 grouped : (c : tie.Else1)
@@ -52,20 +53,8 @@ count c = rw (c .row-count .ensures) (row-count-most _)
 
 placed : (c : tie.After-row-count)
     → let a = entry (c .before .before .before .before) .args in
-    take (c .row-count .result) (c .before .before .before .before .search .last .1 .1 .0) ≡ placedOf (a .words .now) (a .m)
+    take (c .row-count .result) (c .before .before .before .before .search .last .1 .1 .0) ≡ placedOf (boardOf (a .words .now) (limited (a .m)))
 placed c = rw (c .row-count .ensures) (c .before .before .before .before .search .ensures .1 .1 .stores (c .before .if1 .taken))
-
-slice-aggregate-search : tie.Need-slice-aggregate-search
-slice-aggregate-search c = search needs
-
-search-requires : tie.Need-search-requires
-search-requires c κs = search needs
-
-row-count-requires : tie.Need-row-count-requires
-row-count-requires c κs = search needs
-
-slice-aggregate-put-header : tie.Need-slice-aggregate-put-header
-slice-aggregate-put-header c = search needs
 
 put-header-requires : tie.Need-put-header-requires
 put-header-requires c κs = room-first _ _ (rw (ordered (c .before .before .before)) at (room (c .before .before .before .before .before .before)))
@@ -81,27 +70,15 @@ put-levels-requires c κs =
     let rows = c .before .before .before .before .before .before .before in
     (c .before .before .before .before .before .before .before .before .before .before .before .before .before .before .before .pre .0, rw (placed rows) (room-rest (c .before .before .before .before .put-header .ensures) (rw (ordered (rows .before)) at (room (rows .before .before .before .before)))))
 
-same-length : tie.Need-same-length
-same-length c = search needs
-
 returns : tie.Need-returns
 returns c =
     let rows = c .before .before .before .before .before .before .before .before .before .before in
     rw (ordered (rows .before)) (puts-then (c .before .before .before .before .before .before .before .put-header .ensures) (rw (placed rows) at (c .before .before .put-levels .ensures)))
 
-slice-aggregate-put-header-2 : tie.Need-slice-aggregate-put-header-2
-slice-aggregate-put-header-2 c = search needs
-
-put-header-requires-2 : tie.Need-put-header-requires-2
-put-header-requires-2 c κs = room-first _ _ (rw (grouped (c .before .before)) at (room (c .before .before .before .before .before)))
-
 put-members-requires : tie.Need-put-members-requires
 put-members-requires c κs =
     let blocked = c .before .before .before .before .before .before in
     (c .before .before .before .before .before .before .before .before .before .before .before .before .before .pre .0, room-rest (c .before .before .before .put-header2 .ensures) (rw (grouped blocked) at (room (blocked .before .before .before))))
-
-same-length-2 : tie.Need-same-length-2
-same-length-2 c = search needs
 
 returns-2 : tie.Need-returns-2
 returns-2 c = rw (grouped (c .before .before .before .before .before .before .before .before .before)) (puts-then (c .before .before .before .before .before .before .put-header2 .ensures) (c .before .before .put-members .ensures))
@@ -110,18 +87,18 @@ pub put-table-spec : {M : Type 1} → statement M
 put-table-spec =
     tie.close
     (tie.spec
-    slice-aggregate-search
-    search-requires
-    row-count-requires
-    slice-aggregate-put-header
+    (λ c. search needs)
+    (λ c κs. search needs)
+    (λ c κs. search needs)
+    (λ c. search needs)
     put-header-requires
     array-share-prefix-order
     slice-aggregate-put-levels
     put-levels-requires
-    same-length
+    (λ c. search needs)
     returns
-    slice-aggregate-put-header-2
-    put-header-requires-2
+    (λ c. search needs)
+    (λ c κs. room-first _ _ (rw (grouped (c .before .before)) at (room (c .before .before .before .before .before))))
     put-members-requires
-    same-length-2
+    (λ c. search needs)
     returns-2)
