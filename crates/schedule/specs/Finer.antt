@@ -11,6 +11,7 @@ use native.Mathlib.Nat.{le-trans, one-mul, mul-zero, mul-comm, mul-assoc, mul-su
 use lib.Dec.{leb, ltb}
 use lib.ListN.{length, take, getD, length-take}
 use borrow.Author.Tests.{leb-true, le-leb, ltb-true, lt-ltb}
+use Rattle.rows.specs.Board.{board}
 use Rattle.rows.specs.NumberLaws.{le-or-lt}
 use Rattle.rows.specs.Sums.{on, count}
 use Rattle.rows.specs.BoolLaws.{either}
@@ -32,16 +33,16 @@ finer f r = record { c = f * r .c; d = f * r .d; t = f * r .t }
 
 -- C of row k + I divided by m, rounded up, is at most D; or fewer than m rows are above
 unfoldable pub passesUp : ℕ → (ℕ → Row) → ℕ → ℕ → (ℕ → Bool) → ℕ → Bool
-passesUp n t m c H k = ltb (count n H) m || leb (t k .c + (interference n t c H (t k) + (m - 1)) / m) (t k .d)
+passesUp n t m c H k = ltb (count n H) m || leb (t k .c + (interference (board n t m c) H (t k) + (m - 1)) / m) (t k .d)
 
 -- ---- the parts of the test
 
 -- where x times each interference of one table is at most y times that of another, so is x times the whole
-pub interference-scale : (x y n c : ℕ) (t t′ : ℕ → Row) (H : ℕ → Bool) (k k′ : Row)
+pub interference-scale : (x y n m c : ℕ) (t t′ : ℕ → Row) (H : ℕ → Bool) (k k′ : Row)
     → ((i : ℕ) → i < n → x * plain k′ (t′ i) ≤ y * plain k (t i)) → ((i : ℕ) → i < n → x * carry k′ (t′ i) ≤ y * carry k (t i))
-    → x * interference n t′ c H k′ ≤ y * interference n t c H k
+    → x * interference (board n t′ m c) H k′ ≤ y * interference (board n t m c) H k
 unfolding interference
-interference-scale x y n c t t′ H k k′ p q =
+interference-scale x y n m c t t′ H k k′ p q =
     top-scale x y c n (plainFrom t H k) (extraFrom t H k) (plainFrom t′ H k′) (extraFrom t′ H k′)
     (λ i l. one (H i) (plain k (t i)) (plain k′ (t′ i)) (p i l))
     (λ i l.
@@ -97,32 +98,32 @@ module _ (f : ℕ) (p : 1 ≤ f) (k : Row) where
   unfolding carry
   carry-finer i = capped-finer (work i (k .d + (i .d - i .c))) _ (carry-work-finer f p k i)
 
-  interference-finer : (n : ℕ) (t : ℕ → Row) (c : ℕ) (H : ℕ → Bool)
-      → interference n (λ i. finer f (t i)) c H (finer f k) ≤ f * interference n t c H k
-  interference-finer n t c H =
+  interference-finer : (n : ℕ) (t : ℕ → Row) (m c : ℕ) (H : ℕ → Bool)
+      → interference (board n (λ i. finer f (t i)) m c) H (finer f k) ≤ f * interference (board n t m c) H k
+  interference-finer n t m c H =
       rw one-mul at
-      (interference-scale 1 f n c t (λ i. finer f (t i)) H k (finer f k) (λ i _. rw one-mul (plain-finer (t i))) (λ i _. rw one-mul (carry-finer (t i))))
+      (interference-scale 1 f n m c t (λ i. finer f (t i)) H k (finer f k) (λ i _. rw one-mul (plain-finer (t i))) (λ i _. rw one-mul (carry-finer (t i))))
 
 -- ---- the test
 
 module _ (n : ℕ) (t : ℕ → Row) (m c : ℕ) (H : ℕ → Bool) (k : ℕ) (pos : 1 ≤ m) where
   -- rounded up, I is at most (D - C) · m
-  up-bound : t k .c ≤ t k .d → t k .c + (interference n t c H (t k) + (m - 1)) / m ≤ t k .d
-      → interference n t c H (t k) ≤ (t k .d - t k .c) * m
+  up-bound : t k .c ≤ t k .d → t k .c + (interference (board n t m c) H (t k) + (m - 1)) / m ≤ t k .d
+      → interference (board n t m c) H (t k) ≤ (t k .d - t k .c) * m
   up-bound v h =
-      let l : interference n t c H (t k) + (m - 1) < suc (t k .d - t k .c) * m = div-lt-iff-lt-mul pos .0 (omega arith) in
+      let l : interference (board n t m c) H (t k) + (m - 1) < suc (t k .d - t k .c) * m = div-lt-iff-lt-mul pos .0 (omega arith) in
       omega arith
 
-  pub finer-passes : (f : ℕ) → 1 ≤ f → t k .c ≤ t k .d → passesUp n t m c H k ≡ true → passes n (λ i. finer f (t i)) m c H k ≡ true
+  pub finer-passes : (f : ℕ) → 1 ≤ f → t k .c ≤ t k .d → passesUp n t m c H k ≡ true → passes (board n (λ i. finer f (t i)) m c) H k ≡ true
   unfolding passesUp
   finer-passes f p v h =
-      ⊎-elim (λ (e : ltb (count n H) m ≡ true). passes-few n (λ i. finer f (t i)) m c H k (mul-le-mul-left f v) (ltb-true (count n H) m e))
+      ⊎-elim (λ (e : ltb (count n H) m ≡ true). passes-few (board n (λ i. finer f (t i)) m c) H k (mul-le-mul-left f v) (ltb-true (count n H) m e))
       (λ (e : ltb (count n H) m ≡ false).
       let g = t k .d - t k .c in
-      let up = up-bound v (leb-true (t k .c + (interference n t c H (t k) + (m - 1)) / m) (t k .d) (rw e at h)) in
-      let l : f * interference n t c H (t k) ≤ f * g * m = rw mul-assoc (mul-le-mul-left f up) in
-      (passes-iff n (λ i. finer f (t i)) m c H k pos (mul-le-mul-left f v)) .1
-      (rw (cap-finer f (t k)) (omega (arith, interference-finer f p (t k) n t c H))))
+      let up = up-bound v (leb-true (t k .c + (interference (board n t m c) H (t k) + (m - 1)) / m) (t k .d) (rw e at h)) in
+      let l : f * interference (board n t m c) H (t k) ≤ f * g * m = rw mul-assoc (mul-le-mul-left f up) in
+      (passes-iff (board n (λ i. finer f (t i)) m c) H k pos (mul-le-mul-left f v)) .1
+      (rw (cap-finer f (t k)) (omega (arith, interference-finer f p (t k) n t m c H))))
       (either (ltb (count n H) m))
 
   few-up : count n H < m → passesUp n t m c H k ≡ true
@@ -130,10 +131,10 @@ module _ (n : ℕ) (t : ℕ → Row) (m c : ℕ) (H : ℕ → Bool) (k : ℕ) (p
   few-up l = rw (lt-ltb (count n H) m l) refl
 
   -- rounded up is at most one more than rounded down
-  spare-up : used n t m c H k < t k .d → passesUp n t m c H k ≡ true
+  spare-up : used (board n t m c) H k < t k .d → passesUp n t m c H k ≡ true
   unfolding passesUp used
   spare-up l =
-      let I = interference n t c H (t k) in
+      let I = interference (board n t m c) H (t k) in
       let up : (I + (m - 1)) / m < I / m + 2 = div-lt-iff-lt-mul pos .1 (omega (arith, lt-div-mul-add {a = I} {b = m} pos)) in
       ⊎-elim (λ (e : ltb (count n H) m ≡ true). rw e refl)
       (λ (e : ltb (count n H) m ≡ false). rw e (le-leb (t k .c + (I + (m - 1)) / m) (t k .d) (omega arith)))
@@ -157,7 +158,7 @@ module _ (n m : ℕ) (t : ℕ → Row) (pos : 1 ≤ m) (v : (i : ℕ) → i < n 
       (λ j l. finer-passes n t m c (among (take j o)) (getD o j 0) pos f p (v (getD o j 0) (order-row n o O j l) .within) (P j l))
 
   -- so is one in which used is less than D at every level, the m highest apart
-  pub spare-safe : ((j : ℕ) → j < length o → (j < m) ⊎ (used n t m c (among (take j o)) (getD o j 0) < t (getD o j 0) .d))
+  pub spare-safe : ((j : ℕ) → j < length o → (j < m) ⊎ (used (board n t m c) (among (take j o)) (getD o j 0) < t (getD o j 0) .d))
       → (f : ℕ) → 1 ≤ f → Safe n m (λ i. finer f (t i)) o
   spare-safe h =
       finer-safe

@@ -10,6 +10,7 @@ use native.Mathlib.Omega.{arith}
 use native.Mathlib.Nat.{le-refl, le-trans, le-of-eq, ne-of-lt, eq-or-lt-of-le}
 use lib.Dec.{ltb, eqb}
 use borrow.Author.Tests.{ltb-true, ltb-false, lt-ltb, eqb-true, eq-eqb, ne-eqb}
+use Rattle.rows.specs.Board.{board}
 use Rattle.rows.specs.NumberLaws.{le-or-lt}
 use Rattle.rows.specs.Sums.{on, sum, first}
 use Rattle.rows.specs.BoolLaws.{either, not-both}
@@ -118,7 +119,7 @@ legal-lives n m t rank s g = record {
 -- in a legal schedule a task that passes, as do all tasks above it, is in time
 pub jobs-sound : (n m : ℕ) (t : ℕ → Row) (rank : ℕ → ℕ) (s : ℕ → Course) → 0 < m → ((i : ℕ) → i < n → Proper (t i)) → LegalJobs n m t rank s
     → (c : ℕ) → Enough n m c
-    → (k : ℕ) → k < n → ((i : ℕ) → i < n → rank i ≤ rank k → passes n t m c (above rank i) i ≡ true) → InTime (t k) (s k)
+    → (k : ℕ) → k < n → ((i : ℕ) → i < n → rank i ≤ rank k → passes (board n t m c) (above rank i) i ≡ true) → InTime (t k) (s k)
 jobs-sound n m t rank s pos v g c enough k l P j =
     finished-job (t k) (s k) (g .tasks k l) j (s k .release j + t k .d)
     (legal-meets n m t (λ i. life (s i)) pos v c enough rank (legal-lives n m t rank s g) k l P j)

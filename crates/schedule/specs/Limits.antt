@@ -11,6 +11,7 @@ use native.Mathlib.Nat.{le-refl}
 use lib.Dec.{eqb, ltb}
 use lib.ListN.{take, getD}
 use borrow.Author.Tests.{ltb-true}
+use Rattle.rows.specs.Board.{board}
 use Rattle.rows.specs.Sums.{on, sum, count}
 use Rattle.rows.specs.SumLaws.{sum-mono, sum-bound}
 use Rattle.rows.specs.declared.table.Row.{Row}
@@ -66,7 +67,7 @@ in-sequence : Order (rowsBelow 4) inSequence
 unfolding free
 in-sequence = distinct-order (rowsBelow 4) 4 (λ i h. ltb-true i 4 h) inSequence (refl, (refl, (refl, (refl, tt)))) refl
 
-tight-all : Passing (passes 4 tight 2 4) inSequence
+tight-all : Passing (passes (board 4 tight 2 4)) inSequence
 unfolding tight work cap plain carry extra interference used passes
 tight-all zero l = refl
 tight-all (suc zero) l = refl
@@ -75,10 +76,10 @@ tight-all (suc (suc (suc zero))) l = refl
 tight-all (suc (suc (suc (suc j)))) l = absurd (omega arith)
 
 -- they pass at every level, with one carry-in and up to all four
-pub tight-passes : (c : ℕ) → c ≤ 4 → Passing (passes 4 tight 2 c) inSequence
+pub tight-passes : (c : ℕ) → c ≤ 4 → Passing (passes (board 4 tight 2 c)) inSequence
 tight-passes c h j l =
     let H = among (take j inSequence) in
-    passes-mono 4 tight 2 c 4 H H (getD inSequence j 0) h (λ i e. e) (tight-all j l)
+    passes-mono (board 4 tight 2 4) c 4 H H h (λ i e. e) (getD inSequence j 0) (tight-all j l)
 
 tight-proper : (i : ℕ) → Proper (tight i)
 unfolding tight

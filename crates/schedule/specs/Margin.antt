@@ -9,6 +9,7 @@ use mathlib.Core.List.{List}
 use native.Mathlib.Omega.{arith}
 use native.Mathlib.Nat.{le-trans, lt-of-le-of-lt, mul-comm, mul-assoc, mul-le-mul, mul-le-mul-left, mul-lt-mul-of-pos-left, lt-of-mul-lt-mul-left, eq-or-lt-of-le, div-mul-le-self, lt-div-mul-add, lt-of-mul-lt-mul-right, min-eq-left, min-eq-right, min-le-left, min-le-right, le-of-lt}
 use lib.ListN.{take, getD}
+use Rattle.rows.specs.Board.{board}
 use Rattle.rows.specs.NumberLaws.{le-or-lt, div-mono}
 use Rattle.rows.specs.declared.table.Row.{Row}
 use Rattle.workload.specs.Workload.{work, cap, plain, carry}
@@ -102,25 +103,25 @@ module _ (f : ℕ) (p : 1 ≤ f) (k : Row) (room : k .c < k .d) where
 
 module _ (n m : ℕ) (t : ℕ → Row) (pos : 1 ≤ m) (v : (i : ℕ) → i < n → Proper (t i)) (room : (i : ℕ) → i < n → t i .c < t i .d) (c : ℕ) where
   -- with g = D - C: I in finer ticks is to f·g + 1 at most as I with the longer C is to g, and that is less than m
-  pub margin-passes : (H : ℕ → Bool) (k : ℕ) → k < n → passes n (λ i. longer (t i)) m c H k ≡ true
-      → (f : ℕ) → 1 ≤ f → passes n (λ i. finer f (t i)) m c H k ≡ true
+  pub margin-passes : (H : ℕ → Bool) (k : ℕ) → k < n → passes (board n (λ i. longer (t i)) m c) H k ≡ true
+      → (f : ℕ) → 1 ≤ f → passes (board n (λ i. finer f (t i)) m c) H k ≡ true
   margin-passes H k l h f p =
       let free = room k l in
       let g = t k .d - t k .c in
       let G = f * g + 1 in
-      let scaled : g * interference n (λ i. finer f (t i)) c H (finer f (t k)) ≤ G * interference n (λ i. longer (t i)) c H (longer (t k)) =
-      interference-scale g G n c (λ i. longer (t i)) (λ i. finer f (t i)) H (longer (t k)) (finer f (t k))
+      let scaled : g * interference (board n (λ i. finer f (t i)) m c) H (finer f (t k)) ≤ G * interference (board n (λ i. longer (t i)) m c) H (longer (t k)) =
+      interference-scale g G n m c (λ i. longer (t i)) (λ i. finer f (t i)) H (longer (t k)) (finer f (t k))
       (λ i q. plain-scale f p (t k) free (t i)) (λ i q. carry-scale f p (t k) free (t i) (room i q) (v i q .constrained))
       in
-      let less : interference n (λ i. longer (t i)) c H (longer (t k)) < g * m =
-      rw (cap-longer f p (t k) free) at ((passes-iff n (λ i. longer (t i)) m c H k pos free) .0 h)
+      let less : interference (board n (λ i. longer (t i)) m c) H (longer (t k)) < g * m =
+      rw (cap-longer f p (t k) free) at ((passes-iff (board n (λ i. longer (t i)) m c) H k pos free) .0 h)
       in
       let e : G * (g * m) ≡ g * (G * m) = sym (mul-assoc G g m) ∙ ap (λ (z : ℕ). z * m) (mul-comm G g) ∙ mul-assoc g G m in
-      (passes-iff n (λ i. finer f (t i)) m c H k pos (mul-le-mul-left f (le-of-lt free))) .1
+      (passes-iff (board n (λ i. finer f (t i)) m c) H k pos (mul-le-mul-left f (le-of-lt free))) .1
       (rw (cap-finer f (t k)) (lt-of-mul-lt-mul-left g (rw e at (lt-of-le-of-lt scaled (mul-lt-mul-of-pos-left less (omega arith))))))
 
   -- an order that passes at every level with each C one tick longer is safe in ticks of which f make one, whatever f
-  pub margin-safe : Enough n m c → (o : List ℕ) → Order (rowsBelow n) o → Passing (passes n (λ i. longer (t i)) m c) o
+  pub margin-safe : Enough n m c → (o : List ℕ) → Order (rowsBelow n) o → Passing (passes (board n (λ i. longer (t i)) m c)) o
       → (f : ℕ) → 1 ≤ f → Safe n m (λ i. finer f (t i)) o
   margin-safe enough o O P f p =
       order-safe n m (λ i. finer f (t i)) pos (λ i l. proper-finer f p (t i) (v i l)) c enough o O

@@ -8,6 +8,7 @@ use mathlib.Core.Bool.{Bool, true}
 use native.Mathlib.Omega.{arith}
 use native.Mathlib.Nat.{le-refl}
 use borrow.Author.Tests.{ltb-true, lt-ltb}
+use Rattle.rows.specs.Board.{board}
 use Rattle.rows.specs.declared.table.Row.{Row}
 use Rattle.test.specs.Test.{passes}
 use Rattle.schedule.specs.Schedule.{above, Proper, Enough}
@@ -18,10 +19,10 @@ use Rattle.schedule.specs.Window.{meets}
 module _ (n m : ℕ) (t : ℕ → Row) (s : ℕ → Life) (pos : 0 < m) (v : (i : ℕ) → i < n → Proper (t i)) (c : ℕ) (enough : Enough n m c) where
   -- k and all tasks above it pass
   pub driven-meets : (over : ℕ → ℕ → Bool) → Driven n m t over s → (rank : ℕ → ℕ) → ((k i : ℕ) → over k i ≡ true → rank i < rank k)
-      → (k : ℕ) → k < n → ((i : ℕ) → i < n → (i ≡ k) ⊎ (over k i ≡ true) → passes n t m c (over i) i ≡ true) → Meets (t k) (s k)
+      → (k : ℕ) → k < n → ((i : ℕ) → i < n → (i ≡ k) ⊎ (over k i ≡ true) → passes (board n t m c) (over i) i ≡ true) → Meets (t k) (s k)
   driven-meets over g rank falls k l P = down (suc (rank k)) k l (le-refl (suc (rank k))) P
     where
-      down : (b k : ℕ) → k < n → rank k < b → ((i : ℕ) → i < n → (i ≡ k) ⊎ (over k i ≡ true) → passes n t m c (over i) i ≡ true)
+      down : (b k : ℕ) → k < n → rank k < b → ((i : ℕ) → i < n → (i ≡ k) ⊎ (over k i ≡ true) → passes (board n t m c) (over i) i ≡ true)
           → Meets (t k) (s k)
       down zero k l h P = absurd (omega arith)
       down (suc b) k l h P =
@@ -41,7 +42,7 @@ module _ (n m : ℕ) (t : ℕ → Row) (s : ℕ → Life) (pos : 0 < m) (v : (i 
   }
 
   pub legal-meets : (rank : ℕ → ℕ) → LegalLives n m t rank s → (k : ℕ) → k < n
-      → ((i : ℕ) → i < n → rank i ≤ rank k → passes n t m c (above rank i) i ≡ true) → Meets (t k) (s k)
+      → ((i : ℕ) → i < n → rank i ≤ rank k → passes (board n t m c) (above rank i) i ≡ true) → Meets (t k) (s k)
   legal-meets rank g k l P =
       driven-meets (above rank) (legal-driven rank g) rank (λ k i a. ltb-true (rank i) (rank k) a) k l
       (λ i p w.

@@ -8,6 +8,7 @@ use mathlib.Core.Bool.{Bool, true, false, _&&_}
 use native.Mathlib.Omega.{arith}
 use native.Mathlib.Nat.{le-refl, le-trans, add-le-add, le-of-eq, add-suc}
 use borrow.Author.Tests.{leb-true, le-leb}
+use Rattle.rows.specs.Board.{board}
 use Rattle.rows.specs.NumberLaws.{le-or-lt}
 use Rattle.rows.specs.Sums.{on, sum, count}
 use Rattle.rows.specs.BoolLaws.{either, not-both}
@@ -85,7 +86,7 @@ module _ (n m : ℕ) (t : ℕ → Row) (over : ℕ → ℕ → Bool) (s : ℕ �
         place false b z p e o f h = not-both o refl
 
     -- in each of the cap busy ticks m tasks execute
-    busy-bound : (c : ℕ) → Enough n m c → cap (t k) * m ≤ interference n t c (over k) (t k)
+    busy-bound : (c : ℕ) → Enough n m c → cap (t k) * m ≤ interference (board n t m c) (over k) (t k)
     unfolding interference
     busy-bound c enough =
         let P = plainFrom t (over k) (t k) in
@@ -138,7 +139,7 @@ module _ (n m : ℕ) (t : ℕ → Row) (over : ℕ → ℕ → Bool) (s : ℕ �
   -- ---- the task
 
   -- the row passes exactly when the interference is less than cap · m, so the job has finished at its deadline
-  finishes : (c : ℕ) → Enough n m c → passes n t m c (over k) k ≡ true
+  finishes : (c : ℕ) → Enough n m c → passes (board n t m c) (over k) k ≡ true
       → (j : ℕ) → due (s k) j ≤ served (s k) (s k .release j) → due (s k) (suc j) ≤ served (s k) (s k .release j + t k .d)
   unfolding cap
   finishes c enough P j own =
@@ -154,12 +155,12 @@ module _ (n m : ℕ) (t : ℕ → Row) (over : ℕ → ℕ → Bool) (s : ℕ �
       (omega (
         arith,
         busy-bound x d short full (carry-in-few n m t over s pos v g k (s k .release j) x S) c enough,
-        (passes-iff n t m c (over k) k pos (v k kn .within)) .0 P,
+        (passes-iff (board n t m c) (over k) k pos (v k kn .within)) .0 P,
       )))
       (le-or-lt (due (s k) (suc j)) (served (s k) (x + L)))
 
   -- one job after the other: each has finished when the next is released
-  pub meets : (c : ℕ) → Enough n m c → passes n t m c (over k) k ≡ true → Meets (t k) (s k)
+  pub meets : (c : ℕ) → Enough n m c → passes (board n t m c) (over k) k ≡ true → Meets (t k) (s k)
   meets c enough P zero = finishes c enough P zero zero-le
   meets c enough P (suc j) =
       finishes c enough P (suc j)
