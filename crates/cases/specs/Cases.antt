@@ -6,6 +6,7 @@ use mathlib.Core.Bool.{Bool, true, false, cond, _&&_}
 use mathlib.Core.List.{List, [], _∷_}
 use lib.Dec.{eqb}
 use lib.ListN.{length, getD, take, drop}
+use Rattle.rows.specs.Board.{board}
 use Rattle.rows.specs.declared.table.Row.{Row}
 use Rattle.rows.specs.Sets.{without}
 use Rattle.workload.specs.Workload.{work, cap, plain, carry, extra}
@@ -56,14 +57,14 @@ holds : Case → Bool
 holds (searched name m rows order uses tests group blockedUses) =
     let n = length rows in
     let t = tableOf rows in
-    let r = search n (rowsBelow n) (passes n t m (m - 1)) in
+    let r = search n (rowsBelow n) (passes (board n t m (m - 1))) in
     let placed = r .progress .placed in
     let left = free (rowsBelow n) placed in
     same placed order
-    && same (levels (λ j. used n t m (m - 1) (among (take j placed)) (getD placed j 0)) (length placed) 0) uses
+    && same (levels (λ j. used (board n t m (m - 1)) (among (take j placed)) (getD placed j 0)) (length placed) 0) uses
     && eqb (r .tests) tests
     && same (members left (λ i. i) n 0) group
-    && same (members left (λ i. used n t m (m - 1) (without left i) i) n 0) blockedUses
+    && same (members left (λ i. used (board n t m (m - 1)) (without left i) i) n 0) blockedUses
 holds (proposes name m rows policy order) = same (proposed m policy (length rows) (tableOf rows)) order
 holds (empties name m blocks check) =
     let book = bookOf editionOne (contentOf [] m noVerdict) in
