@@ -1,0 +1,60 @@
+// Numbers among bytes, high byte first.
+ghost use Prim.Native.Nat.{_+_, _≤_, _<_};
+use rows::Set;
+
+// The numbers of a case, or the words of a list.
+pub type Block = [u8; 2048];
+
+fn wide(x: u8) -> u32
+    ensures { λ r. ⌜ r < 256 ⌝ }
+{
+    x as u32
+}
+
+pub fn byte(bytes: &Block, at: usize) -> u32
+    requires { ⌜ at < 2048 ⌝ }
+    ensures { λ r. ⌜ r < 256 ⌝ }
+{
+    wide(bytes[at])
+}
+
+pub fn half(bytes: &Block, at: usize) -> u32
+    requires { ⌜ at + 2 ≤ 2048 ⌝ }
+    ensures { λ r. ⌜ r < 65536 ⌝ }
+{
+    byte(bytes, at) * 256 + byte(bytes, at + 1)
+}
+
+pub fn word(bytes: &Block, at: usize) -> u32
+    requires { ⌜ at + 4 ≤ 2048 ⌝ }
+{
+    half(bytes, at) * 0x1_0000 + half(bytes, at + 2)
+}
+
+pub fn long(bytes: &Block, at: usize) -> u64
+    requires { ⌜ at + 8 ≤ 2048 ⌝ }
+{
+    word(bytes, at) as u64 * 0x1_0000_0000 + word(bytes, at + 4) as u64
+}
+
+pub fn set(bytes: &Block, at: usize) -> Set
+    requires { ⌜ at + 16 ≤ 2048 ⌝ }
+{
+    Set {
+        low: long(bytes, at),
+        high: long(bytes, at + 8),
+    }
+}
+
+// The 96 bytes from `at` on.
+pub fn order(bytes: &Block, at: usize) -> [u8; 96]
+    requires { ⌜ at + 96 ≤ 2048 ⌝ }
+{
+    let mut order = [0u8; 96];
+    let mut i: usize = 0;
+    while i < 96 {
+        order[i] = bytes[at + i];
+        i += 1;
+    }
+    order
+}
