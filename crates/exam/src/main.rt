@@ -86,15 +86,19 @@ fn answer_whole(kind: u8, case: Case) -> bool
     requires { ⌜ Counts (case .list .n) (case .list .bytes) ⌝ }
     requires { ⌜ Counts (case .room .n) (case .room .words) ⌝ }
 {
-    let table = case.table;
-    let words = table.words;
-    let n = table.n;
-    let numbers = case.numbers;
-    let list = case.list;
-    let bytes = list.bytes;
-    let room = case.room;
-    let out = room.words;
-    answer(kind, &words[..n], &numbers, bytes, list.n, out, room.n)
+    let table = case.table.words;
+    let n = case.table.n;
+    let bytes = case.list.bytes;
+    let words = case.room.words;
+    answer(
+        kind,
+        &table[..n],
+        &case.numbers,
+        bytes,
+        case.list.n,
+        words,
+        case.room.n,
+    )
 }
 
 // One case. False where the input ends, is cut short, or has another kind.

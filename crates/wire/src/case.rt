@@ -58,9 +58,9 @@ fn count(whole: bool, is_there: bool, most: usize) -> Listed
     if !is_there {
         return Listed { n: 0, whole };
     }
-    let mut bytes = [0u8; 2048];
+    let mut bytes = [0u8; 2];
     let is_read = fill(whole, &mut bytes, 2);
-    let n = numbers::half(&bytes, 0) as usize;
+    let n = numbers::pair(bytes[0], bytes[1]) as usize;
     if most < n {
         return Listed { n: 0, whole: false };
     }

@@ -13,16 +13,22 @@ fn wide(x: u8) -> u32
 
 pub fn byte(bytes: &Block, at: usize) -> u32
     requires { ⌜ at < 2048 ⌝ }
-    ensures { λ r. ⌜ r < 256 ⌝ }
 {
     wide(bytes[at])
 }
 
-pub fn half(bytes: &Block, at: usize) -> u32
+// A number of two bytes.
+pub(crate) fn pair(high: u8, low: u8) -> u32
+    ensures { λ r. ⌜ r < 65536 ⌝ }
+{
+    wide(high) * 256 + wide(low)
+}
+
+fn half(bytes: &Block, at: usize) -> u32
     requires { ⌜ at + 2 ≤ 2048 ⌝ }
     ensures { λ r. ⌜ r < 65536 ⌝ }
 {
-    byte(bytes, at) * 256 + byte(bytes, at + 1)
+    pair(bytes[at], bytes[at + 1])
 }
 
 pub fn word(bytes: &Block, at: usize) -> u32
