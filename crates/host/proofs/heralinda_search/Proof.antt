@@ -10,12 +10,6 @@ use Rattle.host.specs.HostLaws.{host-refused, host-short, handed-fits, h
 use Rattle.host.proofs.heralinda_search.Statement.{statement}
 use Rattle.host.proofs.heralinda_search.Tie as tie
 
-slice-aggregate-read : tie.Need-slice-aggregate-read
-slice-aggregate-read c = search needs
-
-read-requires : tie.Need-read-requires
-read-requires c κs = search needs
-
 returns : tie.Need-returns
 returns c =
     let read = c .before .before .before in
@@ -37,9 +31,6 @@ returns-2 c =
     let short = host-short (a .book .now) (a .out .now) (taken (c .before) .read) (c .if2 .taken) in
     (sym (short .0), sym (short .1))
 
-mul-words : tie.Need-mul-words
-mul-words c = omega (arith, taken (c .before .before) .fits)
-
 array-share-prefix-words : tie.Need-array-share-prefix-words
 array-share-prefix-words c = omega (arith, taken (c .before .before) .fits)
 
@@ -50,9 +41,6 @@ search-into-requires : tie.Need-search-into-requires
 search-into-requires c κs =
     let fits = c .before .before .before in
     handed-fits _ _ _ (taken (fits .before)) _ (fits .if2 .left)
-
-same-length : tie.Need-same-length
-same-length c = search needs
 
 returns-3 : tie.Need-returns-3
 returns-3 c =
@@ -65,13 +53,13 @@ pub heralinda-search-spec : {M : Type 1} → statement M
 heralinda-search-spec =
     tie.close
     (tie.spec
-    slice-aggregate-read
-    read-requires
+    (λ c. search needs)
+    (λ c κs. search needs)
     returns
     returns-2
-    mul-words
+    (λ c. omega (arith, taken (c .before .before) .fits))
     array-share-prefix-words
     slice-aggregate-search-into
     search-into-requires
-    same-length
+    (λ c. search needs)
     returns-3)

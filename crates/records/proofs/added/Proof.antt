@@ -10,36 +10,6 @@ returns : tie.Need-returns
 unfolding add
 returns c = simp (le-leb _ _ (c .if1 .taken))
 
-mul-at : tie.Need-mul-at
-mul-at c = search needs
-
-mul-more : tie.Need-mul-more
-mul-more c = search needs
-
-element-write-more : tie.Need-element-write-more
-element-write-more c = search needs
-
-add-more : tie.Need-add-more
-add-more c = search needs
-
-mul-more-2 : tie.Need-mul-more-2
-mul-more-2 c = search needs
-
-element-write-more-2 : tie.Need-element-write-more-2
-element-write-more-2 c = search needs
-
-add-more-2 : tie.Need-add-more-2
-add-more-2 c = search needs
-
-mul-more-3 : tie.Need-mul-more-3
-mul-more-3 c = search needs
-
-element-write-more-3 : tie.Need-element-write-more-3
-element-write-more-3 c = search needs
-
-add-more-3 : tie.Need-add-more-3
-add-more-3 c = search needs
-
 returns-2 : tie.Need-returns-2
 unfolding add
 returns-2 c = simp (lt-leb _ _ (c .if1 .left))
@@ -49,14 +19,14 @@ added-spec =
     tie.close
     (tie.spec
     returns
-    mul-at
-    mul-more
-    element-write-more
-    add-more
-    mul-more-2
-    element-write-more-2
-    add-more-2
-    mul-more-3
-    element-write-more-3
-    add-more-3
+    (λ c. search needs)
+    (λ c. search needs)
+    (λ c. search needs)
+    (λ c. search needs)
+    (λ c. search needs)
+    (λ c. search needs)
+    (λ c. search needs)
+    (λ c. search needs)
+    (λ c. search needs)
+    (λ c. search needs)
     returns-2)

@@ -27,9 +27,6 @@ returns c =
     let many = lt-ltb 96 (c .before .before .before .args .table .rows) (omega (arith, c .if1 .taken)) in
     (rw many refl, rw many refl)
 
-mul-end : tie.Need-mul-end
-mul-end c = search needs
-
 array-share-prefix-words : tie.Need-array-share-prefix-words
 array-share-prefix-words c = fits (c .before .before)
 
@@ -37,12 +34,6 @@ slice-aggregate-search : tie.Need-slice-aggregate-search
 slice-aggregate-search c =
     let at = c .before .before .before in
     sym (length-take-le _ (entry at .args .table .words) (fits at))
-
-search-requires : tie.Need-search-requires
-search-requires c κs = search needs
-
-same-length : tie.Need-same-length
-same-length c = search needs
 
 returns-2 : tie.Need-returns-2
 unfolding foundIn writtenIn
@@ -56,9 +47,9 @@ search-copy-spec =
     tie.close
     (tie.spec
     returns
-    mul-end
+    (λ c. search needs)
     array-share-prefix-words
     slice-aggregate-search
-    search-requires
-    same-length
+    (λ c κs. search needs)
+    (λ c. search needs)
     returns-2)

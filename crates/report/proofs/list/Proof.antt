@@ -33,37 +33,16 @@ good : (c : tie.Else1)
     → Handed (entry (c .before .before .before) .args .book .now) 288 (c .before .before .before .read .last .1 .0) (c .before .before .before .read .result)
 good c = let read = c .before .before .before .read in handed _ lent _ _ (read .ensures .0) (read .ensures .1) (c .if1 .left)
 
-slice-aggregate-read : tie.Need-slice-aggregate-read
-slice-aggregate-read c = search needs
-
-read-requires : tie.Need-read-requires
-read-requires c κs = search needs
-
-put-refused-requires : tie.Need-put-refused-requires
-put-refused-requires c κs = search needs
-
-same-length : tie.Need-same-length
-same-length c = search needs
-
 returns : tie.Need-returns
 returns c =
     let at = c .before .before .before .before .before .before .before in
     answers (rw (listing-refused _ _ (answer at) (c .before .before .before .before .if1 .taken)) (c .before .before .put-refused .ensures))
-
-mul-size : tie.Need-mul-size
-mul-size c = omega (arith, good (c .before) .fits)
-
-array-share-prefix-words : tie.Need-array-share-prefix-words
-array-share-prefix-words c = omega (arith, good (c .before) .fits, size (c .before .before .before .before))
 
 slice-aggregate-put-table : tie.Need-slice-aggregate-put-table
 slice-aggregate-put-table c = sym (length-take-le _ _ (omega (arith, good (c .before .before) .fits, size (c .before .before .before .before .before))))
 
 put-table-requires : tie.Need-put-table-requires
 put-table-requires c κs = let book = good (c .before .before .before) in (book .some-cores, book .most-cores)
-
-same-length-2 : tie.Need-same-length-2
-same-length-2 c = search needs
 
 returns-2 : tie.Need-returns-2
 returns-2 c =
@@ -74,14 +53,14 @@ pub list-spec : {M : Type 1} → statement M
 list-spec =
     tie.close
     (tie.spec
-    slice-aggregate-read
-    read-requires
-    put-refused-requires
-    same-length
+    (λ c. search needs)
+    (λ c κs. search needs)
+    (λ c κs. search needs)
+    (λ c. search needs)
     returns
-    mul-size
-    array-share-prefix-words
+    (λ c. omega (arith, good (c .before) .fits))
+    (λ c. omega (arith, good (c .before) .fits, size (c .before .before .before .before)))
     slice-aggregate-put-table
     put-table-requires
-    same-length-2
+    (λ c. search needs)
     returns-2)

@@ -13,17 +13,11 @@ use Rattle.report.proofs.put_refused.Tie as tie
 room : (number : ℕ) → number < 2 ^ 32 → Room 0 (refusedText number)
 room number h = record { fits = omega (arith, refused-most number (omega arith)) }
 
-slice-aggregate-put-field : tie.Need-slice-aggregate-put-field
-slice-aggregate-put-field c = search needs
-
 put-field-requires : tie.Need-put-field-requires
 put-field-requires c κs = let number = c .before .before .before .args .number in room-first (field refused-name number) line-feed (room number (search needs))
 
 put-byte-requires : tie.Need-put-byte-requires
 put-byte-requires c κs = room-rest (c .before .before .before .put-field .ensures) (room (c .before .before .before .before .before .before .before .args .number) (search needs))
-
-same-length : tie.Need-same-length
-same-length c = search needs
 
 returns : tie.Need-returns
 returns c = puts-then (c .before .before .before .before .before .before .put-field .ensures) (c .before .before .put-byte .ensures)
@@ -31,4 +25,4 @@ returns c = puts-then (c .before .before .before .before .before .before .put-fi
 pub put-refused-spec : {M : Type 1} → statement M
 put-refused-spec =
     tie.close
-    (tie.spec slice-aggregate-put-field put-field-requires put-byte-requires same-length returns)
+    (tie.spec (λ c. search needs) put-field-requires put-byte-requires (λ c. search needs) returns)

@@ -6,35 +6,11 @@ use borrow.Author.Needs.{needs}
 use Rattle.workload.proofs.carry.Statement.{statement}
 use Rattle.workload.proofs.carry.Tie as tie
 
-cast-length : tie.Need-cast-length
-cast-length c = search needs
-
-slack-requires : tie.Need-slack-requires
-slack-requires c κs = search needs
-
-add-length : tie.Need-add-length
-add-length c = search needs
-
-cast-work : tie.Need-cast-work
-cast-work c = search needs
-
-work-requires : tie.Need-work-requires
-work-requires c κs = search needs
-
-cap-requires : tie.Need-cap-requires
-cap-requires c κs = search needs
-
-least-requires : tie.Need-least-requires
-least-requires c κs = search needs
-
 returns : tie.Need-returns
 unfolding carry
 returns c =
     c .least .ensures
     ∙ rw (c .before .cap .ensures, c .before .before .work .ensures, c .before .before .before .before .slack .ensures) refl
-
-cap-requires-2 : tie.Need-cap-requires-2
-cap-requires-2 c κs = search needs
 
 work-up-to-requires : tie.Need-work-up-to-requires
 work-up-to-requires c κs = rw (c .cap2 .ensures) (cap-fits (c .before .before .before .before .args .k) (search needs))
@@ -47,14 +23,14 @@ pub carry-spec : {M : Type 1} → statement M
 carry-spec =
     tie.close
     (tie.spec
-    cast-length
-    slack-requires
-    add-length
-    cast-work
-    work-requires
-    cap-requires
-    least-requires
+    (λ c. search needs)
+    (λ c κs. search needs)
+    (λ c. search needs)
+    (λ c. search needs)
+    (λ c κs. search needs)
+    (λ c κs. search needs)
+    (λ c κs. search needs)
     returns
-    cap-requires-2
+    (λ c κs. search needs)
     work-up-to-requires
     returns-2)

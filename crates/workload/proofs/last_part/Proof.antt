@@ -12,24 +12,9 @@ use Rattle.workload.proofs.last_part.Tie as tie
 short : (c : tie.Start) → c .args .whole * c .args .row .t ≤ c .args .length
 short c = rw (← (c .pre)) at (div-mul-le-self (c .args .length) (c .args .row .t))
 
-cast-least : tie.Need-cast-least
-cast-least c = search needs
-
-cast-least-2 : tie.Need-cast-least-2
-cast-least-2 c = search needs
-
-mul-least : tie.Need-mul-least
-mul-least c = omega (arith, short (c .before .before))
-
-sub-least : tie.Need-sub-least
-sub-least c = omega (arith, short (c .before .before))
-
-least-requires : tie.Need-least-requires
-least-requires c κs = search needs
-
 returns : tie.Need-returns
 returns c = c .least .ensures ∙ rw (c .before .before .before .pre) refl
 
 pub last-part-spec : {M : Type 1} → statement M
 last-part-spec =
-    tie.close (tie.spec cast-least cast-least-2 mul-least sub-least least-requires returns)
+    tie.close (tie.spec (λ c. search needs) (λ c. search needs) (λ c. omega (arith, short (c .before .before))) (λ c. omega (arith, short (c .before .before))) (λ c κs. search needs) returns)

@@ -5,14 +5,8 @@ use borrow.Author.Needs.{needs}
 use Rattle.workload.proofs.periods.Statement.{statement}
 use Rattle.workload.proofs.periods.Tie as tie
 
-div-result : tie.Need-div-result
-div-result c = search needs
-
 returns : tie.Need-returns
 returns c = rw (c .if1 .taken, div-zero) refl
 
-returns-2 : tie.Need-returns-2
-returns-2 c = search needs
-
 pub periods-spec : {M : Type 1} → statement M
-periods-spec = tie.close (tie.spec div-result returns returns-2)
+periods-spec = tie.close (tie.spec (λ c. search needs) returns (λ c. search needs))

@@ -21,29 +21,11 @@ fits c =
     (λ w. let none : start .args .row .c ≡ 0 = omega (arith, w .left) in rw none (omega arith))
     (c .if1 .came)
 
-periods-requires : tie.Need-periods-requires
-periods-requires c κs = search needs
-
 returns : tie.Need-returns
 returns c =
     let start = c .before .before .before .before in
     let e = c .before .before .before .periods .ensures in
     work-most (start .args .row) (start .args .length) (start .args .most) (c .before .if1 .taken) (rw e at (ltb-true (start .args .most) (c .before .before .before .periods .result) (c .if2 .taken)))
-
-cast-least : tie.Need-cast-least
-cast-least c = search needs
-
-mul-least : tie.Need-mul-least
-mul-least c = omega (arith, fits (c .before))
-
-last-part-requires : tie.Need-last-part-requires
-last-part-requires c κs = search needs
-
-add-least : tie.Need-add-least
-add-least c = omega (arith, fits (c .before .before), c .last-part .ensures)
-
-least-requires : tie.Need-least-requires
-least-requires c κs = search needs
 
 returns-2 : tie.Need-returns-2
 unfolding work
@@ -53,11 +35,11 @@ pub work-up-to-spec : {M : Type 1} → statement M
 work-up-to-spec =
     tie.close
     (tie.spec
-    periods-requires
+    (λ c κs. search needs)
     returns
-    cast-least
-    mul-least
-    last-part-requires
-    add-least
-    least-requires
+    (λ c. search needs)
+    (λ c. omega (arith, fits (c .before)))
+    (λ c κs. search needs)
+    (λ c. omega (arith, fits (c .before .before), c .last-part .ensures))
+    (λ c κs. search needs)
     returns-2)

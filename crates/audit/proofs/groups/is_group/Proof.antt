@@ -8,15 +8,9 @@ use Rattle.audit.specs.Audit.{isGroup}
 use Rattle.audit.proofs.groups.is_group.Statement.{statement}
 use Rattle.audit.proofs.groups.is_group.Tie as tie
 
-size-requires : tie.Need-size-requires
-size-requires c κs = search needs
-
 returns : tie.Need-returns
 unfolding isGroup
 returns c = rw (le-ltb 0 (size (c .before .before .args .group)) (omega (arith, c .before .size .ensures))) refl
-
-within-requires : tie.Need-within-requires
-within-requires c κs = search needs
 
 returns-2 : tie.Need-returns-2
 unfolding isGroup
@@ -24,4 +18,4 @@ returns-2 c =
     rw (lt-ltb 0 (size (c .before .before .before .args .group)) (omega (arith, c .before .before .size .ensures))) (c .within .ensures)
 
 pub is-group-spec : {M : Type 1} → statement M
-is-group-spec = tie.close (tie.spec size-requires returns within-requires returns-2)
+is-group-spec = tie.close (tie.spec (λ c κs. search needs) returns (λ c κs. search needs) returns-2)

@@ -30,26 +30,11 @@ returns : tie.Need-returns Inv-loop μ-loop
 unfolding isOrder
 returns c = rw (ne-eqb _ _ (c .if1 .taken)) refl
 
-below-requires : tie.Need-below-requires Inv-loop μ-loop
-below-requires c κs = search needs
-
 loop-holds : tie.Need-loop-holds Inv-loop μ-loop
 loop-holds c =
     let a = c .before .before .before .args in
     let full : length (a .order .now) ≡ a .n = c .before .if1 .left in
     (search needs, rw (drop-of-length-le (a .order .now) {i = a .n} (omega arith)) refl, c .below .ensures ∙ left-all (a .n) (a .order .now) full)
-
-sub-row : tie.Need-sub-row Inv-loop μ-loop
-sub-row c = search needs
-
-shared-slice-read-row : tie.Need-shared-slice-read-row Inv-loop μ-loop
-shared-slice-read-row c = search needs
-
-cast-row : tie.Need-cast-row Inv-loop μ-loop
-cast-row c = omega (arith, c .shared-slice-known2 .given (c .before .before .loop .level - 1))
-
-has-requires : tie.Need-has-requires Inv-loop μ-loop
-has-requires c κs = search needs
 
 -- whether the row of this level is left tells whether the levels from it down are distinct
 told : (c : tie.After-has Inv-loop μ-loop)
@@ -70,15 +55,6 @@ returns-2 c =
     let a = l .before .before .before .before .args in
     let fails = distinct-fails (a .n) (a .order .now) (l .loop .level - 1) (told (c .before) ∙ not-true _ (c .if2 .taken)) in
     sym (and-fails (eqb (length (a .order .now)) (a .n)) (distinct (a .n) (a .order .now)) (inr fails))
-
-without-requires : tie.Need-without-requires Inv-loop μ-loop
-without-requires c κs = search needs
-
-sub-level : tie.Need-sub-level Inv-loop μ-loop
-sub-level c = search needs
-
-loop-less : tie.Need-loop-less Inv-loop μ-loop
-loop-less c = search needs
 
 loop-again : tie.Need-loop-again Inv-loop μ-loop
 loop-again c =
@@ -105,15 +81,15 @@ is-order-spec =
     Inv-loop
     μ-loop
     returns
-    below-requires
+    (λ c κs. search needs)
     loop-holds
-    sub-row
-    shared-slice-read-row
-    cast-row
-    has-requires
+    (λ c. search needs)
+    (λ c. search needs)
+    (λ c. omega (arith, c .shared-slice-known2 .given (c .before .before .loop .level - 1)))
+    (λ c κs. search needs)
     returns-2
-    without-requires
-    sub-level
-    loop-less
+    (λ c κs. search needs)
+    (λ c. search needs)
+    (λ c. search needs)
     loop-again
     returns-3)

@@ -58,12 +58,6 @@ head-known c =
     let s = c .before .before .before .before .before .before .before in
     headed (book s) (clear-passed (head (book s) (room s)) (head-clear c))
 
-shared-slice-read-body-fault : tie.Need-shared-slice-read-body-fault
-shared-slice-read-body-fault c = omega (arith, sealed (c .before .before .before .before) .some)
-
-cast-body-fault : tie.Need-cast-body-fault
-cast-body-fault c = omega (arith, c .shared-slice-known2 .given 4)
-
 body-fault-requires : tie.Need-body-fault-requires
 body-fault-requires c κs = (sealed (c .before .before .before .before), head-known (c .before))
 
@@ -85,7 +79,7 @@ book-fault-spec =
     (λ c. search needs)
     returns-2
     (λ c. search needs)
-    shared-slice-read-body-fault
-    cast-body-fault
+    (λ c. omega (arith, sealed (c .before .before .before .before) .some))
+    (λ c. omega (arith, c .shared-slice-known2 .given 4))
     body-fault-requires
     returns-3)

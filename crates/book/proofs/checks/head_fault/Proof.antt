@@ -29,9 +29,6 @@ returns-2 c =
     (⊎-elim (λ w. inl (lt-leb _ _ (w .taken))) (λ w. inr (lt-leb _ _ (ltb-true 32 m (w .1 .taken)))) (c .if2 .came)) in
     rw (eq-eqb (getD b 2 0) 1 (c .before .before .if1 .left), cores) refl
 
-cast-n : tie.Need-cast-n
-cast-n c = omega (arith, c .shared-slice-known4 .given 4)
-
 -- where check 2 has passed
 cored : (c : tie.Else3) → someCores (getD (c .before .before .before .before .before .before .args .book .now) 3 0) ≡ true
 cored c =
@@ -77,7 +74,7 @@ head-fault-spec =
     (λ c. search needs)
     returns-2
     (λ c. search needs)
-    cast-n
+    (λ c. omega (arith, c .shared-slice-known4 .given 4))
     returns-3
     (λ c κs. search needs)
     returns-4

@@ -6,12 +6,9 @@ use borrow.Author.Needs.{needs}
 use Rattle.book.proofs.fields.verdict_at.Statement.{statement}
 use Rattle.book.proofs.fields.verdict_at.Tie as tie
 
-cast-t4 : tie.Need-cast-t4
-cast-t4 c = omega (arith, c .shared-slice-known2 .given 5)
-
 returns : tie.Need-returns
 returns c = rw (c .before .order-at .ensures, c .group-at .ensures) refl
 
 pub verdict-at-spec : {M : Type 1} → statement M
 verdict-at-spec =
-    tie.close (tie.spec (λ c. search needs) cast-t4 (λ c κs. search needs) (λ c κs. search needs) returns)
+    tie.close (tie.spec (λ c. search needs) (λ c. omega (arith, c .shared-slice-known2 .given 5)) (λ c κs. search needs) (λ c κs. search needs) returns)

@@ -40,20 +40,8 @@ good c =
     let s = c .before .before .before .before .before in
     readable (book s) (length (words s)) (clear-passed (readChecks editionOne (book s) (length (words s))) (clear c))
 
-shared-slice-read-n : tie.Need-shared-slice-read-n
-shared-slice-read-n c = omega (arith, good (c .before) .sealed .some)
-
-cast-n : tie.Need-cast-n
-cast-n c = omega (arith, c .shared-slice-known2 .given 4)
-
 store-words-requires : tie.Need-store-words-requires
 store-words-requires c κs = let g = good (c .before .before) in (g .headed, g .space)
-
-shared-slice-read-t9 : tie.Need-shared-slice-read-t9
-shared-slice-read-t9 c = omega (arith, good (c .before .before .before .before .before .before) .sealed .some)
-
-cast-t14 : tie.Need-cast-t14
-cast-t14 c = omega (arith, c .shared-slice-known3 .given 3)
 
 verdict-at-requires : tie.Need-verdict-at-requires
 verdict-at-requires c κs = good (c .before .before .before .before .before .before) .sealed .some
@@ -76,11 +64,11 @@ read-spec =
     (λ c κs. search needs)
     returns
     enum-told
-    shared-slice-read-n
-    cast-n
+    (λ c. omega (arith, good (c .before) .sealed .some))
+    (λ c. omega (arith, c .shared-slice-known2 .given 4))
     store-words-requires
-    shared-slice-read-t9
-    cast-t14
+    (λ c. omega (arith, good (c .before .before .before .before .before .before) .sealed .some))
+    (λ c. omega (arith, c .shared-slice-known3 .given 3))
     verdict-at-requires
     (λ c. search needs)
     returns-2)

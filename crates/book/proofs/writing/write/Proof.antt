@@ -75,12 +75,6 @@ returns-3 c =
 cast-t14 : tie.Need-cast-t14
 cast-t14 c = omega (arith, passed-valid _ _ (fair (c .before .before .before .before .before .before .before)) .most-cores)
 
-cast-t15 : tie.Need-cast-t15
-cast-t15 c = omega (arith, count (c .before .before .before .before .before .before))
-
-cast-t16 : tie.Need-cast-t16
-cast-t16 c = omega (arith, formed-kind _ _ (right (c .before .before .before .before .before)))
-
 store-book-requires : tie.Need-store-book-requires
 store-book-requires c κs =
     let room = c .before .before .before .before in
@@ -118,8 +112,8 @@ write-spec =
     size-requires
     returns-3
     cast-t14
-    cast-t15
-    cast-t16
+    (λ c. omega (arith, count (c .before .before .before .before .before .before)))
+    (λ c. omega (arith, formed-kind _ _ (right (c .before .before .before .before .before))))
     store-book-requires
     (λ c. search needs)
     returns-4)

@@ -48,44 +48,23 @@ room-n c = room-rest (c .put-field2 .ensures) (room-m (c .before .before .before
 room-tests : (c : tie.After-put-field3) → Room (c .put-field3 .result) (after-tests (c .before .before .before .before .before .before .before .before .before .before .before .before .before .before .before .before .before))
 room-tests c = room-rest (c .put-field3 .ensures) (room-n (c .before .before .before .before .before))
 
-row-count-requires : tie.Need-row-count-requires
-row-count-requires c κs = search needs
-
-load-requires : tie.Need-load-requires
-load-requires c κs = search needs
-
 put-text-requires : tie.Need-put-text-requires
 put-text-requires c κs = room-first _ _ (room (c .before))
-
-slice-aggregate-put-field : tie.Need-slice-aggregate-put-field
-slice-aggregate-put-field c = search needs
 
 put-field-requires : tie.Need-put-field-requires
 put-field-requires c κs = room-first _ _ (room-word (c .before .before .before .before))
 
-slice-aggregate-put-field-2 : tie.Need-slice-aggregate-put-field-2
-slice-aggregate-put-field-2 c = search needs
-
 put-field-requires-2 : tie.Need-put-field-requires-2
 put-field-requires-2 c κs = room-first _ _ (room-m (c .before .before .before .before))
 
-slice-aggregate-put-field-3 : tie.Need-slice-aggregate-put-field-3
-slice-aggregate-put-field-3 c = search needs
-
 put-field-requires-3 : tie.Need-put-field-requires-3
 put-field-requires-3 c κs = room-first _ _ (room-n (c .before .before .before .before))
-
-slice-aggregate-put-field-4 : tie.Need-slice-aggregate-put-field-4
-slice-aggregate-put-field-4 c = search needs
 
 put-field-requires-4 : tie.Need-put-field-requires-4
 put-field-requires-4 c κs = room-first _ _ (room-tests (c .before .before .before .before))
 
 put-byte-requires : tie.Need-put-byte-requires
 put-byte-requires c κs = let at = c .before .before .before in room-rest (at .put-field4 .ensures) (room-tests (at .before .before .before .before .before))
-
-same-length : tie.Need-same-length
-same-length c = search needs
 
 returns : tie.Need-returns
 returns c =
@@ -104,17 +83,17 @@ pub put-header-spec : {M : Type 1} → statement M
 put-header-spec =
     tie.close
     (tie.spec
-    row-count-requires
-    load-requires
+    (λ c κs. search needs)
+    (λ c κs. search needs)
     put-text-requires
-    slice-aggregate-put-field
+    (λ c. search needs)
     put-field-requires
-    slice-aggregate-put-field-2
+    (λ c. search needs)
     put-field-requires-2
-    slice-aggregate-put-field-3
+    (λ c. search needs)
     put-field-requires-3
-    slice-aggregate-put-field-4
+    (λ c. search needs)
     put-field-requires-4
     put-byte-requires
-    same-length
+    (λ c. search needs)
     returns)

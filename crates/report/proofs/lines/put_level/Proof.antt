@@ -16,13 +16,10 @@ put-row-requires c κs =
     let start = c .before .before .before .before .before .before .before .before .before .before .before in
     (start .pre .0, room-rest (c .before .before .before .put-byte .ensures) (room-rest (c .before .before .before .before .before .before .before .put-decimal .ensures) (start .pre .1)))
 
-same-length : tie.Need-same-length
-same-length c = search needs
-
 returns : tie.Need-returns
 returns c = puts-then (c .before .before .before .before .before .before .before .before .before .before .put-decimal .ensures) (puts-then (c .before .before .before .before .before .before .put-byte .ensures) (c .before .before .put-row .ensures))
 
 pub put-level-spec : {M : Type 1} → statement M
 put-level-spec =
     tie.close
-    (tie.spec put-decimal-requires put-byte-requires put-row-requires same-length returns)
+    (tie.spec put-decimal-requires put-byte-requires put-row-requires (λ c. search needs) returns)

@@ -24,15 +24,6 @@ abbrev μ-loop : tie.MeasureT-loop
 loop-holds : tie.Need-loop-holds Inv-loop μ-loop
 loop-holds c = (search needs, none-above (c .before .before .before .args .order .now), puts-nothing _ _)
 
-shared-slice-read-k : tie.Need-shared-slice-read-k Inv-loop μ-loop
-shared-slice-read-k c = search needs
-
-cast-k : tie.Need-cast-k Inv-loop μ-loop
-cast-k c = omega (arith, c .shared-slice-known3 .given (c .before .before .loop .j))
-
-add-put-level : tie.Need-add-put-level Inv-loop μ-loop
-add-put-level c = search needs
-
 put-level-requires : tie.Need-put-level-requires Inv-loop μ-loop
 put-level-requires c κs =
     let l = c .before .before .before in
@@ -43,15 +34,6 @@ put-level-requires c κs =
       rw (l .loop .inv .1, level-line (start .args .words .now) (start .args .m) order (l .loop .j))
           (room-line line (l .loop .j) (l .loop .inv .2) (length order) (omega arith) (start .pre .1)),
     )
-
-with-requires : tie.Need-with-requires Inv-loop μ-loop
-with-requires c κs = search needs
-
-add-j : tie.Need-add-j Inv-loop μ-loop
-add-j c = search needs
-
-loop-less : tie.Need-loop-less Inv-loop μ-loop
-loop-less c = search needs
 
 loop-again : tie.Need-loop-again Inv-loop μ-loop
 loop-again c =
@@ -81,13 +63,13 @@ put-levels-spec =
     Inv-loop
     μ-loop
     loop-holds
-    shared-slice-read-k
-    cast-k
-    add-put-level
+    (λ c. search needs)
+    (λ c. omega (arith, c .shared-slice-known3 .given (c .before .before .loop .j)))
+    (λ c. search needs)
     put-level-requires
-    with-requires
-    add-j
-    loop-less
+    (λ c κs. search needs)
+    (λ c. search needs)
+    (λ c. search needs)
     loop-again
     same-length
     returns)

@@ -17,19 +17,10 @@ line : (c : tie.Then1)
     ≡ memberLine (entry c .args .words .now) (entry c .args .m) (has (entry c .args .group)) (entry c .args .i)
 line c = let a = entry c .args in member-line (a .words .now) (a .m) (a .group) (a .i) (sym (c .before .has .ensures) ∙ c .if1 .taken)
 
-has-requires : tie.Need-has-requires
-has-requires c κs = search needs
-
-without-requires : tie.Need-without-requires
-without-requires c κs = search needs
-
 put-row-requires : tie.Need-put-row-requires
 put-row-requires c κs =
     let start = c .before .before .before .before .before .before in
     (start .pre .0, rw (c .before .without .ensures, line (c .before .before)) (start .pre .1))
-
-same-length : tie.Need-same-length
-same-length c = search needs
 
 returns : tie.Need-returns
 returns c = rw (← line (c .before .before .before .before .before), ← c .before .before .before .before .without .ensures) (c .before .before .put-row .ensures)
@@ -42,4 +33,4 @@ returns-2 c =
 pub put-member-spec : {M : Type 1} → statement M
 put-member-spec =
     tie.close
-    (tie.spec has-requires without-requires put-row-requires same-length returns returns-2)
+    (tie.spec (λ c κs. search needs) (λ c κs. search needs) put-row-requires (λ c. search needs) returns returns-2)

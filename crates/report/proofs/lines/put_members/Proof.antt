@@ -18,9 +18,6 @@ Inv-loop words m group out₀ at n end₀ i₀ out end i = (i ≤ n) × Puts out
 abbrev μ-loop : tie.MeasureT-loop
 μ-loop words m group out₀ at n end₀ i₀ out end i = n - i
 
-row-count-requires : tie.Need-row-count-requires Inv-loop μ-loop
-row-count-requires c κs = search needs
-
 loop-holds : tie.Need-loop-holds Inv-loop μ-loop
 loop-holds c = (search needs, puts-nothing _ _)
 
@@ -33,12 +30,6 @@ put-member-requires c κs =
       room-line (memberLine words (start .args .m) (has (start .args .group))) (l .loop .i) (l .loop .inv .1) (rowCount words)
           (omega (arith, l .before .row-count .ensures)) (start .pre .1),
     )
-
-add-i : tie.Need-add-i Inv-loop μ-loop
-add-i c = search needs
-
-loop-less : tie.Need-loop-less Inv-loop μ-loop
-loop-less c = search needs
 
 loop-again : tie.Need-loop-again Inv-loop μ-loop
 loop-again c =
@@ -61,11 +52,11 @@ put-members-spec =
     (tie.spec
     Inv-loop
     μ-loop
-    row-count-requires
+    (λ c κs. search needs)
     loop-holds
     put-member-requires
-    add-i
-    loop-less
+    (λ c. search needs)
+    (λ c. search needs)
     loop-again
     same-length
     returns)

@@ -12,11 +12,8 @@ put-text-requires c κs = let start = c .before .before .before in room-first (s
 put-decimal-requires : tie.Need-put-decimal-requires
 put-decimal-requires c κs = room-rest (c .before .before .before .put-text .ensures) (c .before .before .before .before .before .before .before .pre)
 
-same-length : tie.Need-same-length
-same-length c = search needs
-
 returns : tie.Need-returns
 returns c = puts-then (c .before .before .before .before .before .before .put-text .ensures) (c .before .before .put-decimal .ensures)
 
 pub put-field-spec : {M : Type 1} → statement M
-put-field-spec = tie.close (tie.spec put-text-requires put-decimal-requires same-length returns)
+put-field-spec = tie.close (tie.spec put-text-requires put-decimal-requires (λ c. search needs) returns)

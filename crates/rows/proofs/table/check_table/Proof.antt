@@ -36,9 +36,6 @@ returns-2 c =
     (and-fails (leb 1 m) (leb m 32)
     (⊎-elim (λ w. inl (lt-leb _ _ (w .taken))) (λ w. inr (lt-leb _ _ (ltb-true 32 m (w .1 .taken)))) (c .if3 .came))))
 
-first-fault-requires : tie.Need-first-fault-requires
-first-fault-requires c κs = search needs
-
 -- where check 2 has passed too
 cored : (c : tie.Else4) → someCores (c .before .before .before .before .before .args .m) ≡ true
 cored c =
@@ -57,4 +54,4 @@ returns-4 c =
     sym (fault-none _ _ (sized (at .before .before)) (cored at) (rw (c .before .first-fault .ensures) at (c .if5 .left)))
 
 pub check-table-spec : {M : Type 1} → statement M
-check-table-spec = tie.close (tie.spec returns returns-2 first-fault-requires returns-3 returns-4)
+check-table-spec = tie.close (tie.spec returns returns-2 (λ c κs. search needs) returns-3 returns-4)

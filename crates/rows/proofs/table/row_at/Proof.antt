@@ -5,12 +5,6 @@ use Rattle.rows.specs.Table.{rowOf}
 use Rattle.rows.proofs.table.row_at.Statement.{statement}
 use Rattle.rows.proofs.table.row_at.Tie as tie
 
-read-row-requires : tie.Need-read-row-requires
-read-row-requires c κs = search needs
-
-enum-known-read : tie.Need-enum-known-read
-enum-known-read c = search needs
-
 enum-told : tie.Need-enum-told
 enum-told c = search needs
 
@@ -21,4 +15,4 @@ returns-2 : tie.Need-returns-2
 returns-2 c = ap rowOf (sym (c .before .read .given .1) ∙ c .before .before .before .read-row .ensures)
 
 pub row-at-spec : {M : Type 1} → statement M
-row-at-spec = tie.close (tie.spec read-row-requires enum-known-read enum-told returns returns-2)
+row-at-spec = tie.close (tie.spec (λ c κs. search needs) (λ c. search needs) enum-told returns returns-2)

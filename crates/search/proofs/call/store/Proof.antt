@@ -26,18 +26,6 @@ copy-more from to i h l = rw add-one (simp zero-add at (paste-suc to 0 from i 0 
 loop-holds : tie.Need-loop-holds Inv-loop μ-loop
 loop-holds c = (search needs, refl, refl)
 
-element-copy-out-out : tie.Need-element-copy-out-out Inv-loop μ-loop
-element-copy-out-out c = search needs
-
-slice-write-out : tie.Need-slice-write-out Inv-loop μ-loop
-slice-write-out c = search needs
-
-add-i : tie.Need-add-i Inv-loop μ-loop
-add-i c = search needs
-
-loop-less : tie.Need-loop-less Inv-loop μ-loop
-loop-less c = search needs
-
 loop-again : tie.Need-loop-again Inv-loop μ-loop
 loop-again c =
     let l = c .before .before in
@@ -60,10 +48,10 @@ store-spec =
     Inv-loop
     μ-loop
     loop-holds
-    element-copy-out-out
-    slice-write-out
-    add-i
-    loop-less
+    (λ c. search needs)
+    (λ c. search needs)
+    (λ c. search needs)
+    (λ c. search needs)
     loop-again
     same-length
     returns)

@@ -24,17 +24,11 @@ returns c =
       λ h. not-both h refl,
     )
 
-is-blank-requires : tie.Need-is-blank-requires
-is-blank-requires c κs = search needs
-
 -- what the first scan tells
 above : (c : tie.After-is-blank)
     → let a = c .before .before .before .before .before .before .args in
     c .is-blank .result ≡ blankFrom (a .state .order) (a .n - a .state .placed) 0
 above c = rw sub-zero at (c .is-blank .ensures)
-
-is-blank-requires-2 : tie.Need-is-blank-requires-2
-is-blank-requires-2 c κs = search needs
 
 returns-2 : tie.Need-returns-2
 returns-2 c =
@@ -46,12 +40,6 @@ returns-2 c =
           (λ w. not-both (S .below) (sym (w .2 .ensures) ∙ not-true _ (w .3 .taken))) (c .if3 .came))),
       λ h. not-both h refl,
     )
-
-slice-aggregate-unplaced : tie.Need-slice-aggregate-unplaced
-slice-aggregate-unplaced c = search needs
-
-unplaced-requires : tie.Need-unplaced-requires
-unplaced-requires c κs = search needs
 
 returns-3 : tie.Need-returns-3
 returns-3 c =
@@ -71,9 +59,9 @@ left-of-spec =
     tie.close
     (tie.spec
     returns
-    is-blank-requires
-    is-blank-requires-2
+    (λ c κs. search needs)
+    (λ c κs. search needs)
     returns-2
-    slice-aggregate-unplaced
-    unplaced-requires
+    (λ c. search needs)
+    (λ c κs. search needs)
     returns-3)

@@ -23,29 +23,14 @@ Inv-loop order n placed rows₀ i₀ rows i =
 abbrev μ-loop : tie.MeasureT-loop
 μ-loop order n placed rows₀ i₀ rows i = placed - i
 
-below-requires : tie.Need-below-requires Inv-loop μ-loop
-below-requires c κs = search needs
-
 loop-holds : tie.Need-loop-holds Inv-loop μ-loop
 unfolding rowsPlaced
 loop-holds c = (search needs, refl, c .below .ensures ∙ all-unplaced _)
-
-sub-row : tie.Need-sub-row Inv-loop μ-loop
-sub-row c = search needs
-
-sub-row-2 : tie.Need-sub-row-2 Inv-loop μ-loop
-sub-row-2 c = search needs
-
-shared-slice-read-row : tie.Need-shared-slice-read-row Inv-loop μ-loop
-shared-slice-read-row c = search needs
 
 cast-row : tie.Need-cast-row Inv-loop μ-loop
 cast-row c =
     let l = c .before .before in
     omega (arith, c .shared-slice-known2 .given (l .before .before .before .args .n - 1 - l .loop .i))
-
-has-requires : tie.Need-has-requires Inv-loop μ-loop
-has-requires c κs = search needs
 
 -- whether the row of the next level is left tells whether the levels up to it are distinct
 told : (c : tie.After-has Inv-loop μ-loop)
@@ -67,15 +52,6 @@ returns c =
       sym (distinct-fails (a .n) (a .order .now) (l .loop .i + 1) (a .placed) (search needs) (search needs) (search needs) fails),
       λ h. not-both h refl,
     )
-
-without-requires : tie.Need-without-requires Inv-loop μ-loop
-without-requires c κs = search needs
-
-add-i : tie.Need-add-i Inv-loop μ-loop
-add-i c = search needs
-
-loop-less : tie.Need-loop-less Inv-loop μ-loop
-loop-less c = search needs
 
 loop-again : tie.Need-loop-again Inv-loop μ-loop
 loop-again c =
@@ -100,16 +76,16 @@ unplaced-spec =
     (tie.spec
     Inv-loop
     μ-loop
-    below-requires
+    (λ c κs. search needs)
     loop-holds
-    sub-row
-    sub-row-2
-    shared-slice-read-row
+    (λ c. search needs)
+    (λ c. search needs)
+    (λ c. search needs)
     cast-row
-    has-requires
+    (λ c κs. search needs)
     returns
-    without-requires
-    add-i
-    loop-less
+    (λ c κs. search needs)
+    (λ c. search needs)
+    (λ c. search needs)
     loop-again
     returns-2)

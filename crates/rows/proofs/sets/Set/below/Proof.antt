@@ -17,14 +17,8 @@ use Rattle.rows.proofs.sets.Set.below.Tie as tie
 ones-below : (s : Set) (n : ℕ) → FitsWords s → word s ≡ 2 ^ n - 1 → s ≡ below n
 ones-below s n f e = eq-set-of s _ f (λ i l. ap (λ (w : ℕ). bit w i) e ∙ bit-ones n i)
 
-shl-t5 : tie.Need-shl-t5
-shl-t5 c = search needs
-
 sub-t6 : tie.Need-sub-t6
 sub-t6 c = rw (shl-one (c .before .args .n) (c .if1 .taken)) (pow-pos (c .before .args .n))
-
-shl-t11 : tie.Need-shl-t11
-shl-t11 c = search needs
 
 sub-t12 : tie.Need-sub-t12
 sub-t12 c = rw (shl-one (c .before .before .args .n - 64) (omega arith)) (pow-pos (c .before .before .args .n - 64))
@@ -48,4 +42,4 @@ returns-3 c =
     ∙ set-ext _ _ (λ i l. lt-ltb i 128 l ∙ sym (lt-ltb i n (lt-of-lt-of-le l (c .if2 .left))))
 
 pub below-spec : {M : Type 1} → statement M
-below-spec = tie.close (tie.spec shl-t5 sub-t6 shl-t11 sub-t12 returns returns-2 returns-3)
+below-spec = tie.close (tie.spec (λ c. search needs) sub-t6 (λ c. search needs) sub-t12 returns returns-2 returns-3)

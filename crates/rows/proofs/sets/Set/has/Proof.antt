@@ -7,12 +7,6 @@ use Rattle.rows.specs.SetLaws.{has-low, has-high, has-above}
 use Rattle.rows.proofs.sets.Set.has.Statement.{statement}
 use Rattle.rows.proofs.sets.Set.has.Tie as tie
 
-shr-result : tie.Need-shr-result
-shr-result c = search needs
-
-shr-result-2 : tie.Need-shr-result-2
-shr-result-2 c = search needs
-
 returns : tie.Need-returns
 unfolding bit
 returns c = sym (has-low (c .before .before .args .self) (c .before .before .args .row) (c .before .if1 .taken))
@@ -26,4 +20,4 @@ returns-3 : tie.Need-returns-3
 returns-3 c = sym (has-above (c .before .before .args .self) (c .before .before .args .row) (search needs) (c .if2 .left))
 
 pub has-spec : {M : Type 1} → statement M
-has-spec = tie.close (tie.spec shr-result shr-result-2 returns returns-2 returns-3)
+has-spec = tie.close (tie.spec (λ c. search needs) (λ c. search needs) returns returns-2 returns-3)

@@ -14,9 +14,6 @@ use Rattle.rows.specs.declared.sets.Set.{Set}
 use Rattle.rows.proofs.sets.Set.next.Statement.{statement}
 use Rattle.rows.proofs.sets.Set.next.Tie as tie
 
-shr-row : tie.Need-shr-row
-shr-row c = search needs
-
 cast-row : tie.Need-cast-row
 cast-row c = omega (arith, trailing-le 64 (c .before .before .args .self .low / 2 ^ c .before .before .args .from))
 
@@ -29,12 +26,6 @@ returns c =
     let i = c .before .before .before .args .from in
     let row = zeros-first 64 (s .low) i in
     row ∙ next-low s i (rw row at (c .if2 .taken))
-
-cast-result : tie.Need-cast-result
-cast-result c = omega (arith, trailing-le 64 (c .before .before .before .before .args .self .high))
-
-add-result : tie.Need-add-result
-add-result c = omega (arith, trailing-le 64 (c .before .before .before .before .args .self .high))
 
 -- the low word has no row from i on
 none : (s : Set) (i : ℕ) → 64 ≤ first (bit (s .low)) 64 i → (k : ℕ) → i ≤ k → k < 64 + 0 → has s k ≡ false
@@ -51,9 +42,6 @@ returns-2 c =
       trailing-le 64 (s .high),
       next-high s i 0 (search needs) (omega arith) (omega arith) (none s i past),
     )
-
-shr-row-2 : tie.Need-shr-row-2
-shr-row-2 c = search needs
 
 cast-row-2 : tie.Need-cast-row-2
 cast-row-2 c = omega (arith, trailing-le 64 (c .before .before .before .args .self .high / 2 ^ (c .before .before .before .args .from - 64)))
@@ -86,4 +74,4 @@ returns-5 c = sym (first-end _ 128 _ (omega arith))
 
 pub next-spec : {M : Type 1} → statement M
 next-spec =
-    tie.close (tie.spec shr-row cast-row add-row returns cast-result add-result returns-2 shr-row-2 cast-row-2 add-row-2 returns-3 returns-4 returns-5)
+    tie.close (tie.spec (λ c. search needs) cast-row add-row returns (λ c. omega (arith, trailing-le 64 (c .before .before .before .before .args .self .high))) (λ c. omega (arith, trailing-le 64 (c .before .before .before .before .args .self .high))) returns-2 (λ c. search needs) cast-row-2 add-row-2 returns-3 returns-4 returns-5)

@@ -24,12 +24,6 @@ joined s k a b f p q e =
     ap (λ (w : ℕ). bit w i) (sym (or-block 64 (s .high) b (s .low) a (f .0) p) ∙ ap (bitOr (word s)) e)
     ∙ bit-or (word s) (2 ^ k) i ∙ ap (λ (t : Bool). has s i || t) (bit-pow k i))
 
-shl-t6 : tie.Need-shl-t6
-shl-t6 c = search needs
-
-shl-t12 : tie.Need-shl-t12
-shl-t12 c = search needs
-
 returns : tie.Need-returns
 returns c =
     let s = c .before .before .args .self in
@@ -55,4 +49,4 @@ returns-3 c =
     eq-set-of s _ (search needs) (λ i l. rw (ne-eqb i k (ne-of-lt (lt-of-lt-of-le l (c .if2 .left))), or-false))
 
 pub with-spec : {M : Type 1} → statement M
-with-spec = tie.close (tie.spec shl-t6 shl-t12 returns returns-2 returns-3)
+with-spec = tie.close (tie.spec (λ c. search needs) (λ c. search needs) returns returns-2 returns-3)

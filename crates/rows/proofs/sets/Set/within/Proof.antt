@@ -22,12 +22,6 @@ high-lt : (s : Set) (n : ℕ) → s .low < 2 ^ 64 → 64 ≤ n → (s .high < 2 
 high-lt s n f h =
     rw (digits-div (s .high) f, pow-high n h) at (div-lt-iff-lt-mul {x = word s} {y = 2 ^ (n - 64)} (pow-pos 64))
 
-shl-result : tie.Need-shl-result
-shl-result c = search needs
-
-shl-result-2 : tie.Need-shl-result-2
-shl-result-2 c = search needs
-
 returns : tie.Need-returns
 returns c =
     let s = c .before .before .before .before .args .self in
@@ -58,4 +52,4 @@ returns-4 c =
     sym (lt-ltb _ _ (lt-of-lt-of-le (word-lt s (search needs)) (pow-mono (c .if3 .left))))
 
 pub within-spec : {M : Type 1} → statement M
-within-spec = tie.close (tie.spec shl-result shl-result-2 returns returns-2 returns-3 returns-4)
+within-spec = tie.close (tie.spec (λ c. search needs) (λ c. search needs) returns returns-2 returns-3 returns-4)

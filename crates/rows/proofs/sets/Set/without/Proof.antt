@@ -23,14 +23,8 @@ parted s k a b f h p q e =
     eq-set-of t _ (lt-of-le-of-lt (sub-le (s .low) a) (f .0), lt-of-le-of-lt (sub-le (s .high) b) (f .1))
     (λ i l. ap (λ (w : ℕ). bit w i) less ∙ bit-sub k (word s) i h)
 
-has-requires : tie.Need-has-requires
-has-requires c κs = search needs
-
 kept : (c : tie.Else1) → has (c .before .before .args .self) (c .before .before .args .row) ≡ true
 kept c = sym (c .before .has .ensures) ∙ not-false _ (c .if1 .left)
-
-shl-t9 : tie.Need-shl-t9
-shl-t9 c = search needs
 
 sub-t10 : tie.Need-sub-t10
 sub-t10 c =
@@ -74,4 +68,4 @@ returns-3 c =
 
 pub without-spec : {M : Type 1} → statement M
 without-spec =
-    tie.close (tie.spec has-requires shl-t9 sub-t10 shl-t13 sub-t14 returns returns-2 returns-3)
+    tie.close (tie.spec (λ c κs. search needs) (λ c. search needs) sub-t10 shl-t13 sub-t14 returns returns-2 returns-3)
