@@ -1,29 +1,27 @@
 -- Releases and pre-emptions between ticks. With I / m rounded up, as in 004, in the place of down, as in 01, an order that passes at every level is safe at every subdivision of the tick; so it is where used is less than D. With I / m rounded down it need not be (`Limits`).
 -- First a row in finer ticks and the test rounded up, then the parts of the test in finer ticks, then the test, then the theorems.
 -- Assumes nothing.
-use Prim.Native.Nat.{ℕ, suc, _+_, _*_, _-_, _/_, _≤_, _<_, min, zero-le}
+use Prim.Native.Nat.{ℕ, suc, _+_, _*_, _-_, _/_, _≤_, _<_, min}
 use mathlib.Core.Path.{_≡_, refl, sym, ap, _∙_}
 use mathlib.Core.Logic.{⊎-elim, _⊎_}
 use mathlib.Core.Bool.{Bool, true, false, _||_}
 use mathlib.Core.List.{List}
 use native.Mathlib.Omega.{arith}
-use native.Mathlib.Nat.{le-trans, one-mul, mul-zero, mul-comm, mul-assoc, mul-sub, mul-add, mul-le-mul-left, mul-div-mul-left, div-lt-iff-lt-mul, lt-div-mul-add, min-eq-left, min-eq-right, min-le-left, min-le-right, le-of-lt}
+use native.Mathlib.Nat.{le-trans, one-mul, mul-comm, mul-assoc, mul-sub, mul-add, mul-le-mul-left, mul-div-mul-left, div-lt-iff-lt-mul, lt-div-mul-add, min-eq-left, min-eq-right, min-le-left, min-le-right, le-of-lt}
 use lib.Dec.{leb, ltb}
 use lib.ListN.{length, take, getD, length-take}
 use borrow.Author.Tests.{leb-true, le-leb, ltb-true, lt-ltb}
 use Rattle.rows.specs.Board.{board}
 use Rattle.rows.specs.NumberLaws.{le-or-lt}
-use Rattle.rows.specs.Sums.{on, count}
+use Rattle.rows.specs.Sums.{count}
 use Rattle.rows.specs.BoolLaws.{either}
 use Rattle.rows.specs.declared.table.Row.{Row}
-use Rattle.workload.specs.Workload.{work, cap, plain, carry, extra}
-use Rattle.workload.specs.WorkloadLaws.{plain-extra}
-use Rattle.test.specs.Test.{plainFrom, extraFrom, interference, used, passes}
-use Rattle.test.specs.TestLaws.{passes-iff, passes-few}
+use Rattle.workload.specs.Workload.{work, cap, plain, carry}
+use Rattle.test.specs.Test.{interference, used, passes}
+use Rattle.test.specs.TestLaws.{interference-scale, passes-iff, passes-few}
 use Rattle.search.specs.Search.{rowsBelow}
 use Rattle.search.specs.Demand.{Order, among, Passing}
 use Rattle.schedule.specs.Schedule.{Safe, Proper, Enough}
-use Rattle.schedule.specs.MoreSums.{top-scale}
 use Rattle.schedule.specs.LevelLaws.{among-count, order-row}
 use Rattle.schedule.specs.Safety.{order-safe}
 
@@ -36,25 +34,6 @@ unfoldable pub passesUp : ℕ → (ℕ → Row) → ℕ → ℕ → (ℕ → Boo
 passesUp n t m c H k = ltb (count n H) m || leb (t k .c + (interference (board n t m c) H (t k) + (m - 1)) / m) (t k .d)
 
 -- ---- the parts of the test
-
--- where x times each interference of one table is at most y times that of another, so is x times the whole
-pub interference-scale : (x y n m c : ℕ) (t t′ : ℕ → Row) (H : ℕ → Bool) (k k′ : Row)
-    → ((i : ℕ) → i < n → x * plain k′ (t′ i) ≤ y * plain k (t i)) → ((i : ℕ) → i < n → x * carry k′ (t′ i) ≤ y * carry k (t i))
-    → x * interference (board n t′ m c) H k′ ≤ y * interference (board n t m c) H k
-unfolding interference
-interference-scale x y n m c t t′ H k k′ p q =
-    top-scale x y c n (plainFrom t H k) (extraFrom t H k) (plainFrom t′ H k′) (extraFrom t′ H k′)
-    (λ i l. one (H i) (plain k (t i)) (plain k′ (t′ i)) (p i l))
-    (λ i l.
-    two (H i) (plain k (t i)) (extra k (t i)) (plain k′ (t′ i)) (extra k′ (t′ i)) (rw (plain-extra k′ (t′ i), plain-extra k (t i)) (q i l)))
-  where
-    one : (b : Bool) (u u′ : ℕ) → x * u′ ≤ y * u → x * on b u′ ≤ y * on b u
-    one true u u′ l = l
-    one false u u′ l = rw (mul-zero x) zero-le
-
-    two : (b : Bool) (u v u′ v′ : ℕ) → x * (u′ + v′) ≤ y * (u + v) → x * (on b u′ + on b v′) ≤ y * (on b u + on b v)
-    two true u v u′ v′ l = l
-    two false u v u′ v′ l = rw (mul-zero x) zero-le
 
 min-finer : (f a b : ℕ) → min (f * a) (f * b) ≤ f * min a b
 min-finer f a b =
@@ -102,7 +81,7 @@ module _ (f : ℕ) (p : 1 ≤ f) (k : Row) where
       → interference (board n (λ i. finer f (t i)) m c) H (finer f k) ≤ f * interference (board n t m c) H k
   interference-finer n t m c H =
       rw one-mul at
-      (interference-scale 1 f n m c t (λ i. finer f (t i)) H k (finer f k) (λ i _. rw one-mul (plain-finer (t i))) (λ i _. rw one-mul (carry-finer (t i))))
+      (interference-scale 1 f (board n t m c) (λ i. finer f (t i)) H k (finer f k) (λ i _. rw one-mul (plain-finer (t i))) (λ i _. rw one-mul (carry-finer (t i))))
 
 -- ---- the test
 

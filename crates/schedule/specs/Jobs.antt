@@ -14,12 +14,12 @@ use Rattle.rows.specs.Board.{board}
 use Rattle.rows.specs.NumberLaws.{le-or-lt}
 use Rattle.rows.specs.Sums.{on, sum, first}
 use Rattle.rows.specs.BoolLaws.{either, not-both}
-use Rattle.rows.specs.SumLaws.{sum-mono, sum-add, sum-zero, count-one, first-is}
+use Rattle.rows.specs.SumLaws.{sum-mono, sum-add, sum-zero, count-one, first-is, sum-upto}
 use Rattle.rows.specs.declared.table.Row.{Row}
 use Rattle.test.specs.Test.{passes}
 use Rattle.schedule.specs.Schedule.{Course, active, isJob, service, Pending, Sporadic, InTime, above, LegalJobs, Pattern, Scheduled, Proper, Enough}
 use Rattle.schedule.specs.Lives.{Life, served, due, Backlog, LifeOf, LegalLives}
-use Rattle.schedule.specs.MoreSums.{sum-prefix, sum-smaller, count-single, spaced-mono, spaced-least}
+use Rattle.schedule.specs.MoreSums.{sum-smaller, count-single, spaced-mono, spaced-least}
 use Rattle.schedule.specs.Sound.{legal-meets}
 use Rattle.schedule.specs.Exists.{made, made-legal}
 
@@ -84,7 +84,7 @@ module _ (r : Row) (s : Course) (J : Sporadic r s) where
       served-jobs s (suc j) x
       (λ u k p e.
       ⊎-elim (λ (o : k ≤ j). omega arith)
-      (λ (o : j < k). absurd (omega (arith, J .ordered u k j e (omega arith), sum-prefix (λ y. on (isJob j (s .does y)) 1) u x (omega arith))))
+      (λ (o : j < k). absurd (omega (arith, J .ordered u k j e (omega arith), sum-upto u x (λ y. on (isJob j (s .does y)) 1) (omega arith))))
       (le-or-lt k j))
       in
       omega (arith, sum-mono j (λ l. service s l x) (s .cost) (λ i _. service-le i x))
@@ -175,9 +175,9 @@ module _ (r : Row) (h : Life) (q : LifeOf r h) (period : 1 ≤ r .t) where
       let low : due h j ≤ served h u = rw p (K .low) in
       let high : served h u < due h (suc j) = rw p (K .high) in
       rw (eq-eqb j c p) (omega arith))
-      (λ (o : j < c). rw (ne-eqb j c (ne-of-lt o)) (omega (arith, sum-prefix (h .cost) (suc j) c o, K .low)))
+      (λ (o : j < c). rw (ne-eqb j c (ne-of-lt o)) (omega (arith, sum-upto (suc j) c (h .cost) o, K .low)))
       (eq-or-lt-of-le l))
-      (λ (o : c < j). rw (ne-eqb j c (λ p. ne-of-lt o (sym p))) (omega (arith, sum-prefix (h .cost) (suc c) j o, K .high)))
+      (λ (o : c < j). rw (ne-eqb j c (λ p. ne-of-lt o (sym p))) (omega (arith, sum-upto (suc c) j (h .cost) o, K .high)))
       (le-or-lt j c)))
       (λ (e : h .runs u ≡ false). rw e (omega (arith, course-service j u)))
       (either (h .runs u))
@@ -199,7 +199,7 @@ module _ (r : Row) (h : Life) (q : LifeOf r h) (period : 1 ≤ r .t) where
     ordered =
         λ u j l e o.
         let K = course-does u j e in
-        omega (arith, course-service l u, sum-prefix (h .cost) (suc l) j o, K .low);
+        omega (arith, course-service l u, sum-upto (suc l) j (h .cost) o, K .low);
   }
 
   pending-backlog : (u j : ℕ) → Pending (course h) j u → Backlog h u

@@ -14,13 +14,13 @@ use Rattle.rows.specs.NumberLaws.{le-or-lt, div-mono}
 use Rattle.rows.specs.declared.table.Row.{Row}
 use Rattle.workload.specs.Workload.{work, cap, plain, carry}
 use Rattle.test.specs.Test.{interference, passes}
-use Rattle.test.specs.TestLaws.{passes-iff}
+use Rattle.test.specs.TestLaws.{interference-scale, passes-iff}
 use Rattle.search.specs.Search.{rowsBelow}
 use Rattle.search.specs.Demand.{Order, among, Passing}
 use Rattle.schedule.specs.Schedule.{Safe, Proper, Enough}
 use Rattle.schedule.specs.LevelLaws.{order-row}
 use Rattle.schedule.specs.Safety.{order-safe}
-use Rattle.schedule.specs.Finer.{finer, cap-finer, work-finer, carry-work-finer, interference-scale, proper-finer}
+use Rattle.schedule.specs.Finer.{finer, cap-finer, work-finer, carry-work-finer, proper-finer}
 
 -- the row with C one tick longer
 abbrev pub longer : Row → Row
@@ -110,7 +110,7 @@ module _ (n m : ℕ) (t : ℕ → Row) (pos : 1 ≤ m) (v : (i : ℕ) → i < n 
       let g = t k .d - t k .c in
       let G = f * g + 1 in
       let scaled : g * interference (board n (λ i. finer f (t i)) m c) H (finer f (t k)) ≤ G * interference (board n (λ i. longer (t i)) m c) H (longer (t k)) =
-      interference-scale g G n m c (λ i. longer (t i)) (λ i. finer f (t i)) H (longer (t k)) (finer f (t k))
+      interference-scale g G (board n (λ i. longer (t i)) m c) (λ i. finer f (t i)) H (longer (t k)) (finer f (t k))
       (λ i q. plain-scale f p (t k) free (t i)) (λ i q. carry-scale f p (t k) free (t i) (room i q) (v i q .constrained))
       in
       let less : interference (board n (λ i. longer (t i)) m c) H (longer (t k)) < g * m =

@@ -1,17 +1,17 @@
 -- Laws beside those of `rows.specs.SumLaws`: two cases of numbers, sums, counts, the c largest of n numbers, and numbers that lie d or more apart, in this order.
 -- Assumes nothing.
-use Prim.Native.Nat.{ℕ, zero, suc, _+_, _*_, _-_, _≤_, _<_, max, zero-le}
+use Prim.Native.Nat.{ℕ, zero, suc, _+_, _*_, _-_, _≤_, _<_, zero-le}
 use mathlib.Core.Path.{_≡_, refl, sym, ap}
 use mathlib.Core.Logic.{⊎-elim}
 use mathlib.Core.Bool.{Bool, true, false}
 use native.Mathlib.Omega.{arith}
-use native.Mathlib.Nat.{le-refl, le-trans, le-add-right, add-suc, le-of-lt, mul-zero, mul-add, mul-le-mul-left, max-eq-left, max-eq-right}
+use native.Mathlib.Nat.{le-refl, le-trans, le-add-right, add-suc}
 use lib.Dec.{ltb}
 use borrow.Author.Tests.{ltb-true, ltb-false}
 use Rattle.rows.specs.NumberLaws.{le-or-lt}
 use Rattle.rows.specs.Sums.{on, sum, count, first}
 use Rattle.rows.specs.BoolLaws.{either}
-use Rattle.rows.specs.SumLaws.{on-le, sum-add, sum-zero, sum-bound, first-is}
+use Rattle.rows.specs.SumLaws.{on-le, sum-add, sum-zero, sum-bound, sum-upto, first-is}
 use Rattle.test.specs.Test.{top}
 use Rattle.test.specs.TopLaws.{top-zero}
 
@@ -21,13 +21,8 @@ pub sum-split : (f : ℕ → ℕ) (x d : ℕ) → sum (x + d) f ≡ sum x f + su
 sum-split f x zero = let e : x + 0 ≡ x = omega arith in rw e (omega arith)
 sum-split f x (suc d) = rw add-suc (omega (arith, sum-split f x d))
 
-pub sum-prefix : (f : ℕ → ℕ) (x y : ℕ) → x ≤ y → sum x f ≤ sum y f
-sum-prefix f x y l =
-    let e : x + (y - x) ≡ y = omega arith in
-    omega (arith, sum-split f x (y - x), ap (λ (z : ℕ). sum z f) e)
-
 pub sum-at : (n : ℕ) (f : ℕ → ℕ) (i : ℕ) → i < n → f i ≤ sum n f
-sum-at n f i l = omega (arith, sum-prefix f (suc i) n l)
+sum-at n f i l = omega (arith, sum-upto (suc i) n f l)
 
 -- d more terms of at most b
 pub sum-rise : (f : ℕ → ℕ) (b : ℕ) → ((i : ℕ) → f i ≤ b) → (x y d : ℕ) → x + d ≡ y → sum y f ≤ sum x f + d * b
@@ -90,31 +85,6 @@ top-choice (suc c) (suc n) X d h =
     (λ (e : X n ≡ true). let l : count n X + 1 ≤ suc c = rw e at h in rw e (omega (arith, top-choice c n X d (omega arith))))
     (λ (e : X n ≡ false). let l : count n X + 0 ≤ suc c = rw e at h in rw e (omega (arith, top-choice (suc c) n X d (omega arith))))
     (either (X n))
-
--- x times as much is at most y times as much: where no number is taken, and where it is
-pub top-scale : (x y c n : ℕ) (a b a′ b′ : ℕ → ℕ) → ((i : ℕ) → i < n → x * a′ i ≤ y * a i)
-    → ((i : ℕ) → i < n → x * (a′ i + b′ i) ≤ y * (a i + b i)) → x * (sum n a′ + top c n b′) ≤ y * (sum n a + top c n b)
-top-scale x y c zero a b a′ b′ p q = rw (mul-zero x) zero-le
-top-scale x y zero (suc n) a b a′ b′ p q =
-    let ih : x * (sum n a′ + 0) ≤ y * (sum n a + 0) =
-    rw (top-zero n b′, top-zero n b) at (top-scale x y zero n a b a′ b′ (λ i l. p i (omega arith)) (λ i l. q i (omega arith)))
-    in
-    simp (mul-add, mul-zero) (omega (arith, p n (le-refl (suc n)), simp (mul-add, mul-zero) at ih))
-top-scale x y (suc c) (suc n) a b a′ b′ p q =
-    let left = top (suc c) n b in
-    let taken = top c n b + b n in
-    let all = sum n a + a n + max left taken in
-    let l : y * (sum n a + left + a n) ≤ y * all = mul-le-mul-left y (omega arith) in
-    let r : y * (sum n a + top c n b + (a n + b n)) ≤ y * all = mul-le-mul-left y (omega arith) in
-    let one = top-scale x y (suc c) n a b a′ b′ (λ i h. p i (omega arith)) (λ i h. q i (omega arith)) in
-    let two = top-scale x y c n a b a′ b′ (λ i h. p i (omega arith)) (λ i h. q i (omega arith)) in
-    under x (sum n a′ + a′ n) (top (suc c) n b′) (top c n b′ + b′ n) (y * all)
-    (le-trans (simp mul-add (omega (arith, simp mul-add at one, p n (le-refl (suc n))))) l)
-    (le-trans (simp mul-add (omega (arith, simp mul-add at two, simp mul-add at (q n (le-refl (suc n)))))) r)
-  where
-    under : (x s u v z : ℕ) → x * (s + u) ≤ z → x * (s + v) ≤ z → x * (s + max u v) ≤ z
-    under x s u v z h k =
-        ⊎-elim (λ (l : u ≤ v). rw (max-eq-right l) k) (λ (l : v < u). rw (max-eq-left (le-of-lt l)) h) (le-or-lt u v)
 
 -- ---- numbers that lie d or more apart
 

@@ -9,15 +9,15 @@ use native.Mathlib.Omega.{arith}
 use native.Mathlib.Nat.{le-refl, le-trans, div-mul-le-self, lt-div-mul-add}
 use Rattle.rows.specs.NumberLaws.{le-or-lt}
 use Rattle.rows.specs.BoolLaws.{either}
-use Rattle.rows.specs.SumLaws.{on-le}
+use Rattle.rows.specs.SumLaws.{on-le, sum-upto}
 use Rattle.rows.specs.declared.table.Row.{Row}
 use Rattle.workload.specs.Workload.{work}
 use Rattle.schedule.specs.Schedule.{Proper}
 use Rattle.schedule.specs.Lives.{Life, served, due, LifeOf, Meets}
-use Rattle.schedule.specs.MoreSums.{sum-prefix, sum-rise, spaced-far, spaced-mono, spaced-least, first-after}
+use Rattle.schedule.specs.MoreSums.{sum-rise, spaced-far, spaced-mono, spaced-least, first-after}
 
 pub served-mono : (h : Life) (x y : ℕ) → x ≤ y → served h x ≤ served h y
-served-mono h x y l = sum-prefix _ x y l
+served-mono h x y l = sum-upto x y _ l
 
 pub served-slow : (h : Life) (x y : ℕ) → x ≤ y → served h y ≤ served h x + (y - x)
 served-slow h x y l = omega (arith, sum-rise _ 1 (λ i. on-le (h .runs i) 1) x y (y - x) (omega arith))
@@ -43,7 +43,7 @@ module _ (r : Row) (h : Life) (v : Proper r) (q : LifeOf r h) where
       (⊎-elim (λ (o : h .release l ≤ y). omega (arith, only-released l y))
       (λ (o : y < h .release l).
       ⊎-elim (λ (g : l ≤ j). absurd (omega (arith, spaced-mono (h .release) (r .t) (q .spaced) l j g)))
-      (λ (g : j < l). omega (arith, sum-prefix (h .cost) (suc j) l g))
+      (λ (g : j < l). omega (arith, sum-upto (suc j) l (h .cost) g))
       (le-or-lt l j))
       (le-or-lt (h .release l) y)))
       (λ (e : h .runs y ≡ false). rw e (omega (arith, only-released l y)))

@@ -1,12 +1,12 @@
 -- Laws of the test, in the words of document 01, each over any board.
 -- A smaller set above and fewer carry-ins interfere no more; a row passes exactly when the interference is below cap · m, also where the plain sum is given; with fewer than m rows above it always passes; equal rows and sets give equal answers; what fits which width.
 -- Assumes nothing.
-use Prim.Native.Nat.{ℕ, zero, suc, _+_, _*_, _-_, _/_, _^_, _≤_, _<_}
+use Prim.Native.Nat.{ℕ, zero, suc, _+_, _*_, _-_, _/_, _^_, _≤_, _<_, zero-le}
 use mathlib.Core.Path.{_≡_, refl, ap, ap₂, _∙_}
 use mathlib.Core.Logic.{_↔_}
 use mathlib.Core.Bool.{Bool, true, false, _||_, or-true, or-false}
 use native.Mathlib.Omega.{arith}
-use native.Mathlib.Nat.{le-trans, le-refl, add-le-add, mul-le-mul-right, mul-le-mul-left, div-lt-iff-lt-mul, div-le-self, div-zero, add-zero}
+use native.Mathlib.Nat.{le-trans, le-refl, mul-zero, add-le-add, mul-le-mul-right, mul-le-mul-left, div-lt-iff-lt-mul, div-le-self, div-zero, add-zero}
 use lib.Dec.{leb, ltb, eqb, eqb·suc-zero}
 use borrow.Author.Tests.{leb-true, le-leb, lt-ltb, ltb-true}
 use Rattle.rows.specs.BoolLaws.{same}
@@ -18,10 +18,10 @@ use Rattle.rows.specs.SetLaws.{sum-without}
 use Rattle.rows.specs.declared.table.Row.{Row}
 use Rattle.rows.specs.Board.{Board, carrying, holding}
 use Rattle.rows.specs.TableLaws.{Ranged}
-use Rattle.workload.specs.Workload.{plain, extra, cap}
+use Rattle.workload.specs.Workload.{plain, carry, extra, cap}
 use Rattle.workload.specs.WorkloadLaws.{plain-cap, extra-cap, plain-extra, carry-cap, cap-fits}
 use Rattle.test.specs.Test.{top, plainFrom, extraFrom, interference, used, passes, plainOn, plainSum, passesWith}
-use Rattle.test.specs.TopLaws.{top-mono, top-more, top-sum, top-ext}
+use Rattle.test.specs.TopLaws.{top-mono, top-more, top-sum, top-ext, top-scale}
 
 -- with fewer rows above it a row that passed still passes
 abbrev pub Antitone : ((ℕ → Bool) → ℕ → Bool) → Type 0
@@ -151,6 +151,26 @@ module _ (b : Board) where
   interference-fits H k l h =
       le-trans (interference-cap H k)
       (le-trans (mul-le-mul-right (cap k) (le-trans (count-le (b .n) H) l)) (mul-le-mul-left 96 (cap-fits k h)))
+
+-- where x times each interference of other rows is at most y times that of the board's, so is x times the whole
+pub interference-scale : (x y : ℕ) (b : Board) (t′ : ℕ → Row) (H : ℕ → Bool) (k k′ : Row)
+    → ((i : ℕ) → i < b .n → x * plain k′ (t′ i) ≤ y * plain k (b .t i)) → ((i : ℕ) → i < b .n → x * carry k′ (t′ i) ≤ y * carry k (b .t i))
+    → x * interference (holding b t′) H k′ ≤ y * interference b H k
+unfolding interference
+interference-scale x y b t′ H k k′ p q =
+    top-scale x y (b .c) (b .n) (plainFrom (b .t) H k) (extraFrom (b .t) H k) (plainFrom t′ H k′) (extraFrom t′ H k′)
+    (λ i l. one (H i) (plain k (b .t i)) (plain k′ (t′ i)) (p i l))
+    (λ i l.
+    two (H i) (plain k (b .t i)) (extra k (b .t i)) (plain k′ (t′ i)) (extra k′ (t′ i))
+    (rw (plain-extra k′ (t′ i), plain-extra k (b .t i)) (q i l)))
+  where
+    one : (a : Bool) (u u′ : ℕ) → x * u′ ≤ y * u → x * on a u′ ≤ y * on a u
+    one true u u′ l = l
+    one false u u′ l = rw (mul-zero x) zero-le
+
+    two : (a : Bool) (u v u′ v′ : ℕ) → x * (u′ + v′) ≤ y * (u + v) → x * (on a u′ + on a v′) ≤ y * (on a u + on a v)
+    two true u v u′ v′ l = l
+    two false u v u′ v′ l = rw (mul-zero x) zero-le
 
 -- the test looks at the rows above and the row tested, and at nothing else
 module _ (b : Board) (t : ℕ → Row) (H G : ℕ → Bool) (same : (i : ℕ) → i < b .n → H i ≡ G i)
