@@ -25,7 +25,7 @@ fn put_refused(number: u32, out: &mut [u8]) -> usize
 
 // The listing of a table.
 fn put_table(words: &[u32], m: u32, out: &mut [u8]) -> usize
-    requires { ⌜ (1 ≤ m) × (m ≤ 32) ⌝ }
+    requires { ⌜ m ≤ 32 ⌝ }
     ensures { λ r. ⌜ Puts (now (out .entry)) 0 (listed (now (words .entry)) m) (now (out .exit)) r ⌝ }
 {
     let mut order = [255u8; 96];

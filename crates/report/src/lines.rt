@@ -1,6 +1,6 @@
 // The lines of a listing.
 ghost use mathlib.Core.Path.{_≡_};
-ghost use Prim.Native.Nat.{_*_, _/_, _≤_};
+ghost use Prim.Native.Nat.{_*_, _/_};
 ghost use lib.ListN.{length};
 ghost use Rattle.rows.specs.Sets.{has};
 ghost use Rattle.rows.specs.Table.{rowCount};
@@ -61,7 +61,7 @@ pub(crate) fn put_header(
 
 // Row k with the rows above it.
 fn put_row(words: &[u32], m: u32, above: Set, k: usize, out: &mut [u8], at: usize) -> usize
-    requires { ⌜ (1 ≤ m) × Room at (rowLine (now words) m (has above) k) ⌝ }
+    requires { ⌜ Room at (rowLine (now words) m (has above) k) ⌝ }
     ensures { λ r. ⌜ Puts (now (out .entry)) at (rowLine (now (words .entry)) m (has above) k) (now (out .exit)) r ⌝ }
 {
     let row = rows::row_at(words, k);
@@ -84,7 +84,7 @@ fn put_level(
     out: &mut [u8],
     at: usize,
 ) -> usize
-    requires { ⌜ (1 ≤ m) × Room at (atLevel level (rowLine (now words) m (has above) k)) ⌝ }
+    requires { ⌜ Room at (atLevel level (rowLine (now words) m (has above) k)) ⌝ }
     ensures { λ r. ⌜ Puts (now (out .entry)) at (atLevel level (rowLine (now (words .entry)) m (has above) k)) (now (out .exit)) r ⌝ }
 {
     let mut end = put_decimal(level as u64, out, at);
@@ -94,7 +94,7 @@ fn put_level(
 
 // A line for each level, from the highest.
 pub(crate) fn put_levels(words: &[u32], m: u32, order: &[u8], out: &mut [u8], at: usize) -> usize
-    requires { ⌜ (1 ≤ m) × Room at (lines (length (now order)) (levelLine (now words) m (now order))) ⌝ }
+    requires { ⌜ Room at (lines (length (now order)) (levelLine (now words) m (now order))) ⌝ }
     ensures { λ r. ⌜ Puts (now (out .entry)) at (lines (length (now (order .entry))) (levelLine (now (words .entry)) m (now (order .entry)))) (now (out .exit)) r ⌝ }
 {
     let mut above = Set { low: 0, high: 0 };
@@ -111,7 +111,7 @@ pub(crate) fn put_levels(words: &[u32], m: u32, order: &[u8], out: &mut [u8], at
 
 // Row i with the other members above it, where it is a member.
 fn put_member(words: &[u32], m: u32, group: Set, i: usize, out: &mut [u8], at: usize) -> usize
-    requires { ⌜ (1 ≤ m) × Room at (memberLine (now words) m (has group) i) ⌝ }
+    requires { ⌜ Room at (memberLine (now words) m (has group) i) ⌝ }
     ensures { λ r. ⌜ Puts (now (out .entry)) at (memberLine (now (words .entry)) m (has group) i) (now (out .exit)) r ⌝ }
 {
     if group.has(i) {
@@ -122,7 +122,7 @@ fn put_member(words: &[u32], m: u32, group: Set, i: usize, out: &mut [u8], at: u
 
 // A line for each member, by rising row.
 pub(crate) fn put_members(words: &[u32], m: u32, group: Set, out: &mut [u8], at: usize) -> usize
-    requires { ⌜ (1 ≤ m) × Room at (lines (rowCount (now words)) (memberLine (now words) m (has group))) ⌝ }
+    requires { ⌜ Room at (lines (rowCount (now words)) (memberLine (now words) m (has group))) ⌝ }
     ensures { λ r. ⌜ Puts (now (out .entry)) at (lines (rowCount (now (words .entry))) (memberLine (now (words .entry)) m (has group))) (now (out .exit)) r ⌝ }
 {
     let n = rows::row_count(words);

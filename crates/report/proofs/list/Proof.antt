@@ -41,9 +41,6 @@ returns c =
 slice-aggregate-put-table : tie.Need-slice-aggregate-put-table
 slice-aggregate-put-table c = sym (length-take-le _ _ (omega (arith, good (c .before .before) .fits, size (c .before .before .before .before .before))))
 
-put-table-requires : tie.Need-put-table-requires
-put-table-requires c κs = let book = good (c .before .before .before) in (book .some-cores, book .most-cores)
-
 returns-2 : tie.Need-returns-2
 returns-2 c =
     let book = good (c .before .before .before .before .before .before) in
@@ -61,6 +58,6 @@ list-spec =
     (λ c. omega (arith, good (c .before) .fits))
     (λ c. omega (arith, good (c .before) .fits, size (c .before .before .before .before)))
     slice-aggregate-put-table
-    put-table-requires
+    (λ c κs. good (c .before .before .before) .most-cores)
     (λ c. search needs)
     returns-2)

@@ -27,7 +27,7 @@ found : (c : tie.After-search) → c .search .result ≡ foundOf (entry c .args 
 found c = rw (length-replicate {A = ℕ} 96 255) at (c .search .ensures .0)
 
 room : (c : tie.After-search) → Room 0 (listed (entry c .args .words .now) (entry c .args .m))
-room c = let a = entry c .args in record { fits = omega (arith, listed-most (a .words .now) (a .m) (entry c .pre .1)) }
+room c = let a = entry c .args in record { fits = omega (arith, listed-most (a .words .now) (a .m) (entry c .pre)) }
 
 -- the listing where the search answers 0, and where it does not
 ordered : (c : tie.Then1)
@@ -68,7 +68,8 @@ slice-aggregate-put-levels c = let rows = c .before .before .before .before .bef
 put-levels-requires : tie.Need-put-levels-requires
 put-levels-requires c κs =
     let rows = c .before .before .before .before .before .before .before in
-    (c .before .before .before .before .before .before .before .before .before .before .before .before .before .before .before .pre .0, rw (placed rows) (room-rest (c .before .before .before .before .put-header .ensures) (rw (ordered (rows .before)) at (room (rows .before .before .before .before)))))
+    rw (placed rows)
+    (room-rest (c .before .before .before .before .put-header .ensures) (rw (ordered (rows .before)) at (room (rows .before .before .before .before))))
 
 returns : tie.Need-returns
 returns c =
@@ -78,7 +79,7 @@ returns c =
 put-members-requires : tie.Need-put-members-requires
 put-members-requires c κs =
     let blocked = c .before .before .before .before .before .before in
-    (c .before .before .before .before .before .before .before .before .before .before .before .before .before .pre .0, room-rest (c .before .before .before .put-header2 .ensures) (rw (grouped blocked) at (room (blocked .before .before .before))))
+    room-rest (c .before .before .before .put-header2 .ensures) (rw (grouped blocked) at (room (blocked .before .before .before)))
 
 returns-2 : tie.Need-returns-2
 returns-2 c = rw (grouped (c .before .before .before .before .before .before .before .before .before)) (puts-then (c .before .before .before .before .before .before .put-header2 .ensures) (c .before .before .put-members .ensures))

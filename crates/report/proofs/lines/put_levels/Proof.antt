@@ -21,19 +21,14 @@ Inv-loop words m order out₀ at above₀ end₀ j₀ out above end j =
 abbrev μ-loop : tie.MeasureT-loop
 μ-loop words m order out₀ at above₀ end₀ j₀ out above end j = length order - j
 
-loop-holds : tie.Need-loop-holds Inv-loop μ-loop
-loop-holds c = (search needs, none-above (c .before .before .before .args .order .now), puts-nothing _ _)
-
 put-level-requires : tie.Need-put-level-requires Inv-loop μ-loop
 put-level-requires c κs =
     let l = c .before .before .before in
     let start = l .before .before .before .before in
     let order = start .args .order .now in
-    let line = levelLine (start .args .words .now) (start .args .m) order in (
-      start .pre .0,
-      rw (l .loop .inv .1, level-line (start .args .words .now) (start .args .m) order (l .loop .j))
-          (room-line line (l .loop .j) (l .loop .inv .2) (length order) (omega arith) (start .pre .1)),
-    )
+    let line = levelLine (start .args .words .now) (start .args .m) order in
+    rw (l .loop .inv .1, level-line (start .args .words .now) (start .args .m) order (l .loop .j))
+    (room-line line (l .loop .j) (l .loop .inv .2) (length order) (omega arith) (start .pre))
 
 loop-again : tie.Need-loop-again Inv-loop μ-loop
 loop-again c =
@@ -47,9 +42,6 @@ loop-again c =
           (rw (l .loop .inv .1, level-line words (start .args .m) order (l .loop .j)) at (c .before .before .before .put-level .ensures)),
     )
 
-same-length : tie.Need-same-length Inv-loop μ-loop
-same-length c = puts-length (c .before .loop .inv .2)
-
 returns : tie.Need-returns Inv-loop μ-loop
 returns c =
     let l = c .before in
@@ -62,7 +54,7 @@ put-levels-spec =
     (tie.spec
     Inv-loop
     μ-loop
-    loop-holds
+    (λ c. (search needs, none-above (c .before .before .before .args .order .now), puts-nothing _ _))
     (λ c. search needs)
     (λ c. omega (arith, c .shared-slice-known3 .given (c .before .before .loop .j)))
     (λ c. search needs)
@@ -71,5 +63,5 @@ put-levels-spec =
     (λ c. search needs)
     (λ c. search needs)
     loop-again
-    same-length
+    (λ c. puts-length (c .before .loop .inv .2))
     returns)

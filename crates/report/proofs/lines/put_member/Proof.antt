@@ -20,7 +20,7 @@ line c = let a = entry c .args in member-line (a .words .now) (a .m) (a .group) 
 put-row-requires : tie.Need-put-row-requires
 put-row-requires c κs =
     let start = c .before .before .before .before .before .before in
-    (start .pre .0, rw (c .before .without .ensures, line (c .before .before)) (start .pre .1))
+    rw (c .before .without .ensures, line (c .before .before)) (start .pre)
 
 returns : tie.Need-returns
 returns c = rw (← line (c .before .before .before .before .before), ← c .before .before .before .before .without .ensures) (c .before .before .put-row .ensures)

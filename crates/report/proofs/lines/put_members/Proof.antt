@@ -18,27 +18,19 @@ Inv-loop words m group out₀ at n end₀ i₀ out end i = (i ≤ n) × Puts out
 abbrev μ-loop : tie.MeasureT-loop
 μ-loop words m group out₀ at n end₀ i₀ out end i = n - i
 
-loop-holds : tie.Need-loop-holds Inv-loop μ-loop
-loop-holds c = (search needs, puts-nothing _ _)
-
 put-member-requires : tie.Need-put-member-requires Inv-loop μ-loop
 put-member-requires c κs =
     let l = c .before .before in
     let start = l .before .before .before .before in
-    let words = start .args .words .now in (
-      start .pre .0,
-      room-line (memberLine words (start .args .m) (has (start .args .group))) (l .loop .i) (l .loop .inv .1) (rowCount words)
-          (omega (arith, l .before .row-count .ensures)) (start .pre .1),
-    )
+    let words = start .args .words .now in
+    room-line (memberLine words (start .args .m) (has (start .args .group))) (l .loop .i) (l .loop .inv .1) (rowCount words)
+    (omega (arith, l .before .row-count .ensures)) (start .pre)
 
 loop-again : tie.Need-loop-again Inv-loop μ-loop
 loop-again c =
     let l = c .before .before .before .before .before in
     let a = l .before .before .before .before .args in
     (omega arith, puts-line (memberLine (a .words .now) (a .m) (has (a .group))) (l .loop .i) (l .loop .inv .1) (c .before .before .put-member .ensures))
-
-same-length : tie.Need-same-length Inv-loop μ-loop
-same-length c = puts-length (c .before .loop .inv .1)
 
 returns : tie.Need-returns Inv-loop μ-loop
 returns c =
@@ -53,10 +45,10 @@ put-members-spec =
     Inv-loop
     μ-loop
     (λ c κs. search needs)
-    loop-holds
+    (λ c. (search needs, puts-nothing _ _))
     put-member-requires
     (λ c. search needs)
     (λ c. search needs)
     loop-again
-    same-length
+    (λ c. puts-length (c .before .loop .inv .1))
     returns)

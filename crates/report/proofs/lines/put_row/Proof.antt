@@ -33,7 +33,7 @@ unfolding rowLine
 line-is c = ap₂ (rowText (entry c .args .k)) (c .before .before .row-at .ensures) (rw (c .before .limited .ensures) at (c .used .ensures))
 
 room : (c : tie.After-used) → Room (entry c .args .at) (field row-name (entry c .args .k) ++ after-row c)
-room c = rw (line-is c) (entry c .pre .1)
+room c = rw (line-is c) (entry c .pre)
 
 room-row : (c : tie.After-put-field) → Room (c .put-field .result) (after-row (c .before .before .before))
 room-row c = room-rest (c .put-field .ensures) (room (c .before .before .before))
