@@ -5,13 +5,13 @@ use mathlib.Core.Bool.{Bool, _&&_, cond}
 use mathlib.Core.List.{List, [], _∷_, _++_}
 use lib.Dec.{eqb, ltb}
 use lib.ListN.{length, take, getD}
-use Rattle.rows.specs.Sums.{first}
+use Rattle.sets.specs.Sums.{first}
 use Rattle.rows.specs.Judge.{check, judge}
 use Rattle.rows.specs.Numbers.{done, malformed, order-fails, member-passes}
-use Rattle.rows.specs.Sets.{has, size, within}
+use Rattle.sets.specs.Sets.{has, size, within}
 use Rattle.rows.specs.Table.{rowCount, tableChecks}
 use Rattle.rows.specs.Board.{Board, boardOf}
-use Rattle.rows.specs.declared.sets.Set.{Set}
+use Rattle.sets.specs.declared.Set.{Set}
 use Rattle.rows.specs.declared.terms.Terms.{Terms}
 use Rattle.test.specs.Test.{used, passes}
 use Rattle.search.specs.Demand.{among}

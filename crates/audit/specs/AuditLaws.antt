@@ -12,12 +12,12 @@ use native.Mathlib.Nat.{eq-or-lt-of-le}
 use lib.Dec.{eqb, leb, ltb}
 use lib.ListN.{length, getD, replicate, length-replicate}
 use borrow.Author.Tests.{eqb-true, eqb-false, leb-true, leb-false, ltb-true, ltb-false}
-use Rattle.rows.specs.BoolLaws.{either, not-both}
+use Rattle.sets.specs.BoolLaws.{either, not-both}
 use Rattle.rows.specs.Numbers.{done, blocked, malformed, order-fails, member-passes}
-use Rattle.rows.specs.Sets.{has, _⊆_, size}
+use Rattle.sets.specs.Sets.{has, _⊆_, size}
 use Rattle.rows.specs.Table.{rowCount, table, tableFault}
 use Rattle.rows.specs.TableLaws.{row-count-most}
-use Rattle.rows.specs.declared.sets.Set.{Set}
+use Rattle.sets.specs.declared.Set.{Set}
 use Rattle.search.specs.Search.{rowsBelow, free}
 use Rattle.search.specs.Demand.{Order, Passing, Blocked, Truth}
 use Rattle.search.specs.Answers.{placedOf, foundOf, writtenOf, Demanded}
@@ -26,8 +26,8 @@ use Rattle.search.specs.DemandLaws.{search-truth, rows-count, rows-below}
 use Rattle.search.specs.CallLaws.{placed-most, found-short, found-blocked, found-done, found-demanded}
 use Rattle.search.specs.declared.call.Found.{Found}
 use Rattle.audit.specs.Audit.{isOrder, lowestFailing, isGroup, lowestPassing, orderCheckedOf, groupCheckedOf}
-use Rattle.rows.specs.SumLaws.{count-zero-iff}
-use Rattle.rows.specs.SetLaws.{size-zero-iff}
+use Rattle.sets.specs.SumLaws.{count-zero-iff}
+use Rattle.sets.specs.SetLaws.{size-zero-iff}
 use Rattle.rows.specs.Board.{Board, boardOf}
 use Rattle.rows.specs.declared.terms.Terms.{Terms}
 use Rattle.test.specs.TestLaws.{passes-antitone}

@@ -8,15 +8,15 @@ use mathlib.Core.List.{List, [], _∷_}
 use native.Mathlib.Omega.{arith}
 use lib.Dec.{ltb}
 use borrow.Author.Tests.{ltb-true, ltb-false, lt-ltb, le-ltb}
-use Rattle.rows.specs.BoolLaws.{either, not-both, and-in, and-left, and-right}
+use Rattle.sets.specs.BoolLaws.{either, not-both, and-in, and-left, and-right}
 use Rattle.rows.specs.Judge.{Check, check}
 use Rattle.rows.specs.Numbers.{done, malformed, member-passes}
-use Rattle.rows.specs.SumLaws.{first-is}
-use Rattle.rows.specs.Sets.{has, without, size, within}
-use Rattle.rows.specs.SetLaws.{within-iff}
+use Rattle.sets.specs.SumLaws.{first-is}
+use Rattle.sets.specs.Sets.{has, without, size, within}
+use Rattle.sets.specs.SetLaws.{within-iff}
 use Rattle.rows.specs.Table.{rowCount, tableFault}
 use Rattle.rows.specs.TableLaws.{judge-refused, judge-passed}
-use Rattle.rows.specs.declared.sets.Set.{Set}
+use Rattle.sets.specs.declared.Set.{Set}
 use Rattle.rows.specs.Board.{boardOf}
 use Rattle.rows.specs.declared.terms.Terms.{Terms}
 use Rattle.test.specs.Test.{passes}

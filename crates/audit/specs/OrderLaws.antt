@@ -12,13 +12,13 @@ use lib.Dec.{eqb}
 use lib.ListN.{length, take, drop, getD, take-append-drop, drop-of-length-le}
 use lib.Seq.{drop-cons}
 use borrow.Author.Tests.{ltb-true, leb-false, eqb-true, eq-eqb}
-use Rattle.rows.specs.BoolLaws.{either, not-both, and-in, and-left, and-right, same}
+use Rattle.sets.specs.BoolLaws.{either, not-both, and-in, and-left, and-right, same}
 use Rattle.rows.specs.Judge.{Check, check}
 use Rattle.rows.specs.Numbers.{done, malformed, order-fails}
-use Rattle.rows.specs.Sums.{times, on}
-use Rattle.rows.specs.SumLaws.{count-zero-iff, on-le, on-true}
-use Rattle.rows.specs.Sets.{has, setOf, below, withoutRow}
-use Rattle.rows.specs.SetLaws.{has-set-of}
+use Rattle.sets.specs.Sums.{times, on}
+use Rattle.sets.specs.SumLaws.{count-zero-iff, on-le, on-true}
+use Rattle.sets.specs.Sets.{has, setOf, below, withoutRow}
+use Rattle.sets.specs.SetLaws.{has-set-of}
 use Rattle.rows.specs.Table.{rowCount, tableFault}
 use Rattle.rows.specs.TableLaws.{judge-refused, judge-passed}
 use Rattle.rows.specs.Board.{Board, boardOf}

@@ -1,13 +1,13 @@
 // The checker of blocked groups: each member fails with the other members above it.
 ghost use mathlib.Core.Path.{_≡_};
-ghost use Rattle.rows.specs.Sets.{has};
+ghost use Rattle.sets.specs.Sets.{has};
 ghost use Rattle.rows.specs.Board.{boardOf, limited};
 ghost use Rattle.test.specs.Test.{passes};
 ghost use Rattle.search.specs.Answers.{passing};
 ghost use Rattle.audit.specs.Audit.{isGroup, lowestPassing, groupCheckedOf};
-use rows::Set;
 use rows::Terms;
 use rows::numbers;
+use sets::Set;
 
 // A group's answer: the number, with 3 the lowest row at fault, with 14 the lowest member that passes.
 pub struct GroupChecked {

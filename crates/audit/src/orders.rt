@@ -5,9 +5,9 @@ ghost use Prim.Native.Nat.{_≤_};
 ghost use Rattle.rows.specs.Table.{rowCount};
 ghost use Rattle.rows.specs.Board.{boardOf, limited};
 ghost use Rattle.audit.specs.Audit.{isOrder, levelsOf, orderCheckedOf};
-use rows::Set;
 use rows::Terms;
 use rows::numbers;
+use sets::Set;
 
 // An order's answer: the number, with 3 the lowest row at fault, with 6 the lowest level that fails and its used.
 pub struct OrderChecked {

@@ -10,10 +10,10 @@ use native.Mathlib.Nat.{zero-add, mod-lt, div-add-mod, div-mul-le-self, le-div-i
 use lib.Dec.{ltb, eqb}
 use lib.ListN.{length, getD}
 use borrow.Author.Tests.{eq-eqb, lt-ltb, le-leb, ltb-true, ltb-false}
-use Rattle.rows.specs.BoolLaws.{either, not-both, and-in}
-use Rattle.rows.specs.Sums.{first}
-use Rattle.rows.specs.NumberLaws.{div-mono}
-use Rattle.rows.specs.SumLaws.{first-is}
+use Rattle.sets.specs.BoolLaws.{either, not-both, and-in}
+use Rattle.sets.specs.Sums.{first}
+use Rattle.sets.specs.NumberLaws.{div-mono}
+use Rattle.sets.specs.SumLaws.{first-is}
 use Rattle.rows.specs.Table.{inRange}
 use Rattle.rows.specs.JudgeLaws.{Passed, passed-append}
 use Rattle.book.specs.Bytes.{byte, big, little, checkOf, run}

@@ -9,8 +9,8 @@ use native.Mathlib.Omega.{arith}
 use lib.Dec.{ltb}
 use lib.ListN.{length, getD, drop, List·getD-eq-default}
 use borrow.Author.Tests.{lt-ltb, ltb-true}
-use Rattle.rows.specs.BoolLaws.{either}
-use Rattle.rows.specs.Sets.{word}
+use Rattle.sets.specs.BoolLaws.{either}
+use Rattle.sets.specs.Sets.{word}
 use Rattle.book.specs.Bytes.{byte, checkOf}
 use Rattle.book.specs.ByteLaws.{check-ext, byte-none}
 use Rattle.book.specs.Layout.{Edition, editionOne, Content, blocks, inner, opened, sealed, at, bookOf}

@@ -13,11 +13,11 @@ use lib.ListN.{length, getD, take, drop, replicate, List·getD-eq-default}
 use lib.Seq.{take-at}
 use lib.Pow.{pow-mono}
 use borrow.Author.Tests.{eqb-true, eq-eqb, le-leb, ltb-true, ltb-false, leb-true, not-false}
-use Rattle.rows.specs.BoolLaws.{either, and-in}
+use Rattle.sets.specs.BoolLaws.{either, and-in}
 use Rattle.rows.specs.Numbers.{done}
-use Rattle.rows.specs.Sums.{first}
-use Rattle.rows.specs.SumLaws.{first-is}
-use Rattle.rows.specs.SetLaws.{FitsWords}
+use Rattle.sets.specs.Sums.{first}
+use Rattle.sets.specs.SumLaws.{first-is}
+use Rattle.sets.specs.SetLaws.{FitsWords}
 use Rattle.rows.specs.Table.{inRange, wordsAt, faulty, rowCount, firstFault, tableChecks, tableFault}
 use Rattle.rows.specs.declared.table.Checked.{Checked}
 use Rattle.rows.specs.TableLaws.{passed-valid, in-range, fault-none}

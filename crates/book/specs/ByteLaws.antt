@@ -16,7 +16,7 @@ use lib.ListN.{length, getD}
 use lib.Seq.{ext-getD}
 use lib.Arith.{digits-mod, digits-div}
 use lib.Pow.{pow-add}
-use Rattle.rows.specs.BoolLaws.{either, and-in, and-left, and-right}
+use Rattle.sets.specs.BoolLaws.{either, and-in, and-left, and-right}
 use Rattle.book.specs.Bytes.{byte, big, little, around, sum16, checkOf, run, all}
 use Rattle.book.specs.Parts.{carried}
 

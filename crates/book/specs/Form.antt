@@ -5,8 +5,8 @@ use mathlib.Core.Bool.{Bool, false, cond, not, _&&_, _||_}
 use mathlib.Core.List.{List}
 use lib.Dec.{ltb, leb, eqb}
 use lib.ListN.{getD}
-use Rattle.rows.specs.Sets.{word, within}
-use Rattle.rows.specs.declared.sets.Set.{Set}
+use Rattle.sets.specs.Sets.{word, within}
+use Rattle.sets.specs.declared.Set.{Set}
 use Rattle.book.specs.Bytes.{all}
 use Rattle.book.specs.declared.verdicts.Verdict.{Verdict}
 

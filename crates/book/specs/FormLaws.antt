@@ -12,10 +12,10 @@ use lib.Bits.{bitAnd}
 use lib.ListN.{getD}
 use lib.Pow.{pow-pos}
 use borrow.Author.Tests.{lt-ltb, le-ltb, ltb-true, eqb-true, leb-true, eq-eqb, ne-eqb}
-use Rattle.rows.specs.BoolLaws.{either, and-left, and-right}
-use Rattle.rows.specs.Sets.{word, has, mask, setOf, within, none, withRow}
-use Rattle.rows.specs.SetLaws.{set-ext, has-set-of}
-use Rattle.rows.specs.declared.sets.Set.{Set}
+use Rattle.sets.specs.BoolLaws.{either, and-left, and-right}
+use Rattle.sets.specs.Sets.{word, has, mask, setOf, within, none, withRow}
+use Rattle.sets.specs.SetLaws.{set-ext, has-set-of}
+use Rattle.sets.specs.declared.Set.{Set}
 use Rattle.book.specs.Bytes.{all}
 use Rattle.book.specs.ByteLaws.{side, all-at, all-make, all-ext, and-full}
 use Rattle.book.specs.Form.{among, entryFits, orderFits, groupFits, empty, formed}

@@ -5,7 +5,7 @@ use mathlib.Core.Bool.{cond}
 use mathlib.Core.List.{List, _∷_, _++_}
 use lib.Dec.{ltb}
 use lib.ListN.{getD}
-use Rattle.rows.specs.Sets.{word}
+use Rattle.sets.specs.Sets.{word}
 use Rattle.book.specs.Bytes.{byte, checkOf, run}
 use Rattle.book.specs.declared.verdicts.Verdict.{Verdict}
 

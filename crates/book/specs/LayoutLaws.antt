@@ -8,7 +8,7 @@ use native.Mathlib.Nat.{zero-add}
 use lib.ListN.{length, getD, List·getD-append}
 use lib.Seq.{getD-append-add}
 use borrow.Author.Tests.{lt-ltb, le-ltb}
-use Rattle.rows.specs.Sets.{word}
+use Rattle.sets.specs.Sets.{word}
 use Rattle.book.specs.Bytes.{byte, checkOf, run}
 use Rattle.book.specs.ByteLaws.{run-length, run-at}
 use Rattle.book.specs.Layout.{Edition, editionOne, longest, Content, blocks, head, inner, opened, sealed, at, bookOf}

@@ -5,12 +5,12 @@ use mathlib.Core.Bool.{Bool, not, _&&_}
 use mathlib.Core.List.{List, [], _∷_, _++_}
 use lib.Dec.{leb, eqb}
 use lib.ListN.{length, getD, drop, replicate}
-use Rattle.rows.specs.Sums.{on, first}
-use Rattle.rows.specs.Sets.{none}
+use Rattle.sets.specs.Sums.{on, first}
+use Rattle.sets.specs.Sets.{none}
 use Rattle.rows.specs.Judge.{Check, check, checkAt, judge}
 use Rattle.rows.specs.Numbers.{done, table-length, row-range, short-output, book-length, block-number, block-check, edition, book-field}
 use Rattle.rows.specs.Table.{inRange, coresCheck}
-use Rattle.rows.specs.declared.sets.Set.{Set}
+use Rattle.sets.specs.declared.Set.{Set}
 use Rattle.rows.specs.declared.table.Row.{Row}
 use Rattle.book.specs.Bytes.{big, little, checkOf, run, all}
 use Rattle.book.specs.Form.{formed}

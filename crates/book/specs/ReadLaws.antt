@@ -11,8 +11,8 @@ use native.Mathlib.Nat.{eq-or-lt-of-le, zero-add}
 use lib.Dec.{eqb, leb}
 use lib.ListN.{length, getD, drop}
 use borrow.Author.Tests.{eqb-true, leb-true}
-use Rattle.rows.specs.BoolLaws.{and-left, and-right}
-use Rattle.rows.specs.Sums.{first}
+use Rattle.sets.specs.BoolLaws.{and-left, and-right}
+use Rattle.sets.specs.Sums.{first}
 use Rattle.rows.specs.Table.{inRange, wordsAt, readAt, faulty}
 use Rattle.rows.specs.declared.table.Row.{Row}
 use Rattle.rows.specs.declared.table.RowRead.the-variants.{Fine, Fault}

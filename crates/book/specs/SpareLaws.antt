@@ -14,10 +14,10 @@ use lib.Bits.{bitOr}
 use lib.Dec.{leb, eqb}
 use lib.ListN.{length, getD, List·getD-eq-default}
 use borrow.Author.Tests.{eqb-true, eq-eqb, lt-ltb, le-ltb, le-leb, lt-leb}
-use Rattle.rows.specs.BoolLaws.{either, not-both}
+use Rattle.sets.specs.BoolLaws.{either, not-both}
 use Rattle.rows.specs.Judge.{Check, check, checkAt}
 use Rattle.rows.specs.Numbers.{row-range, short-output, book-field}
-use Rattle.rows.specs.Sets.{word}
+use Rattle.sets.specs.Sets.{word}
 use Rattle.book.specs.Bytes.{byte, big, little, checkOf, all}
 use Rattle.book.specs.ByteLaws.{run-length, run-at, all-at, all-make, all-from, or-none, side, check-ext, check-fits, byte-little, byte-big, byte-low, byte-high, byte-none, little-lt}
 use Rattle.book.specs.Fault.{faultOf}

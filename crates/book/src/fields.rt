@@ -7,7 +7,7 @@ ghost use Rattle.book.specs.Layout.{editionOne};
 ghost use Rattle.book.specs.Read.{wordAt, verdictOf, groupOf};
 use crate::bytes;
 use crate::verdicts::Verdict;
-use rows::Set;
+use sets::Set;
 
 // The three words of row i of the table, which stand in one block.
 pub(crate) fn row_words(book: &[u8], i: usize) -> [u32; 3]

@@ -1,11 +1,11 @@
 // The head of a book, its size, and the bytes of a group.
 ghost use mathlib.Core.Path.{_≡_};
 ghost use Prim.Native.Nat.{ℕ, _+_, _*_, _≤_, _<_};
-ghost use Rattle.rows.specs.Sets.{word};
+ghost use Rattle.sets.specs.Sets.{word};
 ghost use Rattle.book.specs.Bytes.{byte};
 ghost use Rattle.book.specs.Layout.{editionOne, blocks};
 use crate::bytes;
-use rows::Set;
+use sets::Set;
 
 // What block 0 says besides the edition.
 pub(crate) struct Head {

@@ -10,8 +10,8 @@ use crate::checks;
 use crate::checks::Fault;
 use crate::fields;
 use crate::verdicts::Verdict;
-use rows::Set;
 use rows::numbers;
+use sets::Set;
 
 // The number; with 3 the lowest row at fault, with 10 and 11 the first block at fault; and what the book says.
 pub struct BookRead {

@@ -3,7 +3,7 @@ ghost use mathlib.Core.Path.{_≡_};
 ghost use mathlib.Core.List.{List};
 ghost use Prim.Native.Nat.{ℕ, _+_, _-_, _*_, _/_, _%_, _≤_, _<_};
 ghost use lib.ListN.{length, getD};
-ghost use Rattle.rows.specs.Sets.{word};
+ghost use Rattle.sets.specs.Sets.{word};
 ghost use Rattle.book.specs.Bytes.{byte, checkOf};
 ghost use Rattle.book.specs.Layout.{editionOne, sealed};
 ghost use Rattle.book.specs.Heads.{said};
@@ -12,7 +12,7 @@ ghost use Rattle.book.specs.declared.layout.Head.{Head};
 use crate::bytes;
 use crate::layout;
 use crate::layout::Head;
-use rows::Set;
+use sets::Set;
 
 // The check of the block that begins at `at`.
 fn store_check(out: &mut [u8], at: usize)

@@ -3,10 +3,10 @@ ghost use mathlib.Core.Path.{_≡_};
 ghost use mathlib.Core.Bool.{not, _&&_};
 ghost use Prim.Native.Nat.{_≤_};
 ghost use lib.Dec.{ltb};
-ghost use Rattle.rows.specs.Sets.{has};
+ghost use Rattle.sets.specs.Sets.{has};
 ghost use Rattle.book.specs.Form.{orderFits, groupFits, formed as formedOf};
 ghost use Rattle.book.specs.Parts.{free};
-use rows::Set;
+use sets::Set;
 
 // Kind 0 none, 1 order, 2 blocked; the order and the group as they stand in block 0.
 pub struct Verdict {

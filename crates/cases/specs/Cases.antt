@@ -8,7 +8,7 @@ use lib.Dec.{eqb}
 use lib.ListN.{length, getD, take, drop}
 use Rattle.rows.specs.Board.{board}
 use Rattle.rows.specs.declared.table.Row.{Row}
-use Rattle.rows.specs.Sets.{without}
+use Rattle.sets.specs.Sets.{without}
 use Rattle.workload.specs.Workload.{work, cap, plain, carry, extra}
 use Rattle.test.specs.Test.{interference, used, passes}
 use Rattle.search.specs.Search.{rowsBelow, free, next, finished, probe, search}

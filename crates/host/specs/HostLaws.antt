@@ -11,7 +11,7 @@ use lib.Dec.{leb}
 use lib.ListN.{length, take, drop}
 use borrow.Author.Tests.{le-leb, lt-leb, leb-true, leb-false}
 use Rattle.rows.specs.Board.{limited}
-use Rattle.rows.specs.BoolLaws.{either}
+use Rattle.sets.specs.BoolLaws.{either}
 use Rattle.rows.specs.Judge.{Check, check, judge}
 use Rattle.rows.specs.Numbers.{done, blocked, short-output}
 use Rattle.rows.specs.Table.{rowCount, tableFault}

@@ -12,15 +12,15 @@ use lib.ListN.{length, getD, take, drop, replicate, length-append, length-drop, 
 use lib.Seq.{take-suc, take-take, take-at, split-at, getD-take, getD-append-add, getD-drop, length-take-le}
 use borrow.Author.Tests.{eq-eqb, lt-ltb, le-ltb, ltb-true, ltb-false}
 use Rattle.rows.specs.Board.{boardOf, limited}
-use Rattle.rows.specs.BoolLaws.{either, and-in}
+use Rattle.sets.specs.BoolLaws.{either, and-in}
 use Rattle.rows.specs.Numbers.{done, blocked}
-use Rattle.rows.specs.Sums.{on, times}
-use Rattle.rows.specs.SumLaws.{on-le, on-true, on-false, count-zero-iff}
-use Rattle.rows.specs.Sets.{word, has, setOf, none, within}
-use Rattle.rows.specs.SetLaws.{within-iff, set-of-fits}
+use Rattle.sets.specs.Sums.{on, times}
+use Rattle.sets.specs.SumLaws.{on-le, on-true, on-false, count-zero-iff}
+use Rattle.sets.specs.Sets.{word, has, setOf, none, within}
+use Rattle.sets.specs.SetLaws.{within-iff, set-of-fits}
 use Rattle.rows.specs.Table.{rowCount, tableFault}
 use Rattle.rows.specs.TableLaws.{row-count-most}
-use Rattle.rows.specs.declared.sets.Set.{Set}
+use Rattle.sets.specs.declared.Set.{Set}
 use Rattle.search.specs.Search.{rowsBelow, free}
 use Rattle.search.specs.Demand.{Order}
 use Rattle.search.specs.OrderLaws.{times-append}

@@ -13,7 +13,7 @@ use lib.ListN.{length, getD, set, take, drop, length-set, length-replicate}
 use lib.Seq.{drop-cons, drop-length}
 use borrow.Author.Tests.{ltb-true, ltb-false, lt-ltb, le-ltb, leb-true, leb-false, le-leb, lt-leb}
 use Rattle.rows.specs.Board.{limited}
-use Rattle.rows.specs.BoolLaws.{either, and-fails}
+use Rattle.sets.specs.BoolLaws.{either, and-fails}
 use Rattle.rows.specs.Numbers.{table-length}
 use Rattle.rows.specs.Table.{tableFault}
 use Rattle.rows.specs.TableLaws.{fault-length}

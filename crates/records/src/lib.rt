@@ -4,9 +4,9 @@ ghost use lib.ListN.{length};
 ghost use Rattle.rows.specs.Board.{limited};
 ghost use Rattle.search.specs.Answers.{foundOf, writtenOf};
 ghost use Rattle.records.specs.Records.{flat, noRows, add, copyOf, foundIn, writtenIn};
-use rows::Set;
 use rows::numbers;
 use search::Found;
+use sets::Set;
 
 #[repr(C)]
 pub struct Task {

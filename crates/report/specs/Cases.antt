@@ -3,7 +3,7 @@
 use Prim.Native.Nat.{ℕ}
 use mathlib.Core.Path.{_≡_, refl}
 use mathlib.Core.List.{List, [], _∷_, _++_}
-use Rattle.rows.specs.Sets.{bit, mask, setOf, without}
+use Rattle.sets.specs.Sets.{bit, mask, setOf, without}
 use Rattle.rows.specs.Table.{inRange, readAt, rowCount, firstFault}
 use Rattle.workload.specs.Workload.{work, cap, plain, carry, extra}
 use Rattle.test.specs.Test.{interference, used, passes}

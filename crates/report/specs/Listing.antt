@@ -8,8 +8,8 @@ use lib.ListN.{length, getD, take}
 use Rattle.rows.specs.Board.{boardOf, limited}
 use Rattle.rows.specs.Judge.{judge}
 use Rattle.rows.specs.Numbers.{done}
-use Rattle.rows.specs.Sums.{sum}
-use Rattle.rows.specs.Sets.{has, without}
+use Rattle.sets.specs.Sums.{sum}
+use Rattle.sets.specs.Sets.{has, without}
 use Rattle.rows.specs.Table.{table, rowCount}
 use Rattle.rows.specs.declared.table.Row.{Row}
 use Rattle.test.specs.Test.{used}

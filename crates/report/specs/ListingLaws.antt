@@ -15,11 +15,11 @@ use borrow.Author.Tests.{eq-eqb, ne-eqb}
 use Rattle.rows.specs.Board.{boardOf, limited}
 use Rattle.rows.specs.Judge.{Check, judge}
 use Rattle.rows.specs.Numbers.{done, blocked}
-use Rattle.rows.specs.Sets.{has, mask, setOf, none, withRow, withoutRow, without}
-use Rattle.rows.specs.SetLaws.{has-set-of, has-without, set-ext}
+use Rattle.sets.specs.Sets.{has, mask, setOf, none, withRow, withoutRow, without}
+use Rattle.sets.specs.SetLaws.{has-set-of, has-without, set-ext}
 use Rattle.rows.specs.Table.{table, rowCount}
 use Rattle.rows.specs.TableLaws.{row-count-most}
-use Rattle.rows.specs.declared.sets.Set.{Set}
+use Rattle.sets.specs.declared.Set.{Set}
 use Rattle.rows.specs.JudgeLaws.{Passed, judge-works}
 use Rattle.test.specs.TestLaws.{used-ext}
 use Rattle.search.specs.Search.{elem}

@@ -12,10 +12,10 @@ use lib.ListN.{length, getD, take, replicate, length-append, length-replicate}
 use borrow.Author.Tests.{eqb-true, eq-eqb, ltb-true}
 use Rattle.rows.specs.declared.terms.Terms.{Terms}
 use Rattle.rows.specs.Board.{boardOf, limited}
-use Rattle.rows.specs.BoolLaws.{either}
+use Rattle.sets.specs.BoolLaws.{either}
 use Rattle.rows.specs.Numbers.{done}
-use Rattle.rows.specs.Sets.{has, without}
-use Rattle.rows.specs.SumLaws.{sum-bound, on-true}
+use Rattle.sets.specs.Sets.{has, without}
+use Rattle.sets.specs.SumLaws.{sum-bound, on-true}
 use Rattle.rows.specs.Table.{inRange, wordsAt, table, rowCount}
 use Rattle.rows.specs.TableLaws.{in-range, read-in-range, read-out-of-range, row-count-most}
 use Rattle.rows.specs.declared.table.Row.{Row}

@@ -12,7 +12,7 @@ use lib.Dec.{ltb}
 use lib.ListN.{length, getD, take, drop, set, length-set, length-append}
 use lib.Seq.{set-out, take-suc, take-all, length-take-le}
 use borrow.Author.Tests.{ltb-true, ltb-false, lt-ltb, le-ltb}
-use Rattle.rows.specs.BoolLaws.{either}
+use Rattle.sets.specs.BoolLaws.{either}
 use Rattle.report.specs.Text.{digit, decimalBy, decimal, lines, over}
 
 -- ---- decimal numbers

@@ -2,7 +2,7 @@
 ghost use mathlib.Core.Path.{_≡_};
 ghost use Prim.Native.Nat.{_*_, _/_};
 ghost use lib.ListN.{length};
-ghost use Rattle.rows.specs.Sets.{has};
+ghost use Rattle.sets.specs.Sets.{has};
 ghost use Rattle.rows.specs.Table.{rowCount};
 ghost use Rattle.report.specs.Text.{lines};
 ghost use Rattle.report.specs.TextLaws.{Room, Puts};
@@ -12,7 +12,7 @@ use crate::text::put_decimal;
 use crate::text::put_field;
 use crate::text::put_text;
 use rows::Row;
-use rows::Set;
+use sets::Set;
 
 // 1000 · C / T, rounded down.
 fn share(row: Row) -> u64

@@ -6,7 +6,7 @@ use mathlib.Core.Bool.{Bool, true, false, cond}
 use mathlib.Core.List.{List, [], _∷_, _++_}
 use lib.Dec.{eqb}
 use borrow.Author.Tests.{eq-eqb}
-use Rattle.rows.specs.BoolLaws.{not-both}
+use Rattle.sets.specs.BoolLaws.{not-both}
 use Rattle.rows.specs.Judge.{Check, judge}
 use Rattle.rows.specs.Numbers.{done}
 

@@ -1,13 +1,6 @@
 pub mod Numbers
-pub mod Sums
-pub mod Sets
 pub mod Judge
 pub mod Table
 pub mod Board
-pub mod BoolLaws
-pub mod NumberLaws
-pub mod SumLaws
-pub mod PassLaws
-pub mod SetLaws
 pub mod JudgeLaws
 pub mod TableLaws

@@ -5,7 +5,7 @@ use mathlib.Core.Bool.{Bool, not, _&&_, cond}
 use mathlib.Core.List.{List, [], _∷_}
 use lib.Dec.{leb, eqb}
 use lib.ListN.{length, getD}
-use Rattle.rows.specs.Sums.{first}
+use Rattle.sets.specs.Sums.{first}
 use Rattle.rows.specs.Judge.{Check, check, checkAt, judge}
 use Rattle.rows.specs.Numbers.{done, table-length, cores, row-range}
 use Rattle.rows.specs.declared.table.Row.{Row}

@@ -9,8 +9,8 @@ use native.Mathlib.Omega.{arith}
 use lib.Dec.{leb, eqb}
 use lib.ListN.{length, getD, List·getD-eq-default}
 use borrow.Author.Tests.{leb-true, leb-false, le-leb, lt-leb, eqb-true, eq-eqb, ne-eqb, not-false}
-use Rattle.rows.specs.BoolLaws.{either, and-left, and-right}
-use Rattle.rows.specs.SumLaws.{first-is}
+use Rattle.sets.specs.BoolLaws.{either, and-left, and-right}
+use Rattle.sets.specs.SumLaws.{first-is}
 use Rattle.rows.specs.Judge.{Check, check, checkAt, judge}
 use Rattle.rows.specs.Numbers.{done, table-length, cores, row-range}
 use Rattle.rows.specs.Table.{inRange, wordsAt, readAt, faulty, table, rowCount, firstFault, tableChecks, tableFault}

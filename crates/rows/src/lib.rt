@@ -1,10 +1,8 @@
-// What a row, a table and a set of rows are, and the numbers answered.
+// What a row and a table are, on what terms rows are tested, and the numbers answered.
 pub mod numbers;
-mod sets;
 mod table;
 mod terms;
 
-pub use sets::Set;
 pub use table::Checked;
 pub use table::Row;
 pub use table::RowRead;

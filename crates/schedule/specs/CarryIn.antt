@@ -9,11 +9,11 @@ use native.Mathlib.Omega.{arith}
 use native.Mathlib.Nat.{le-refl, le-trans, eq-or-lt-of-le, le-of-suc-le-suc}
 use lib.Dec.{leb}
 use borrow.Author.Tests.{leb-false}
-use Rattle.rows.specs.NumberLaws.{le-or-lt}
-use Rattle.rows.specs.Sums.{count}
-use Rattle.rows.specs.BoolLaws.{either, and-in, and-left, and-right}
-use Rattle.rows.specs.SumLaws.{sum-zero, count-mono}
-use Rattle.rows.specs.Sets.{_⊆_}
+use Rattle.sets.specs.NumberLaws.{le-or-lt}
+use Rattle.sets.specs.Sums.{count}
+use Rattle.sets.specs.BoolLaws.{either, and-in, and-left, and-right}
+use Rattle.sets.specs.SumLaws.{sum-zero, count-mono}
+use Rattle.sets.specs.Sets.{_⊆_}
 use Rattle.rows.specs.declared.table.Row.{Row}
 use Rattle.schedule.specs.Schedule.{Proper}
 use Rattle.schedule.specs.Lives.{Life, served, due, Backlog, LifeOf}

@@ -9,10 +9,10 @@ use native.Mathlib.Omega.{arith}
 use native.Mathlib.Nat.{le-refl, eq-or-lt-of-le, ne-of-lt}
 use lib.Dec.{leb, ltb, eqb}
 use borrow.Author.Tests.{leb-true, ltb-true, ltb-false, le-leb, lt-ltb, le-ltb, eqb-true, eq-eqb, ne-eqb}
-use Rattle.rows.specs.NumberLaws.{le-or-lt}
-use Rattle.rows.specs.Sums.{on, sum, count, first}
-use Rattle.rows.specs.BoolLaws.{either, not-both, and-left, and-right}
-use Rattle.rows.specs.SumLaws.{sum-mono, sum-ext, sum-add, first-is}
+use Rattle.sets.specs.NumberLaws.{le-or-lt}
+use Rattle.sets.specs.Sums.{on, sum, count, first}
+use Rattle.sets.specs.BoolLaws.{either, not-both, and-left, and-right}
+use Rattle.sets.specs.SumLaws.{sum-mono, sum-ext, sum-add, first-is}
 use Rattle.rows.specs.declared.table.Row.{Row}
 use Rattle.schedule.specs.Schedule.{above, Pattern}
 use Rattle.schedule.specs.Lives.{Life, served, LegalLives}

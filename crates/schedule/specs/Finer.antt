@@ -12,9 +12,9 @@ use lib.Dec.{leb, ltb}
 use lib.ListN.{length, take, getD, length-take}
 use borrow.Author.Tests.{leb-true, le-leb, ltb-true, lt-ltb}
 use Rattle.rows.specs.Board.{board}
-use Rattle.rows.specs.NumberLaws.{le-or-lt}
-use Rattle.rows.specs.Sums.{count}
-use Rattle.rows.specs.BoolLaws.{either}
+use Rattle.sets.specs.NumberLaws.{le-or-lt}
+use Rattle.sets.specs.Sums.{count}
+use Rattle.sets.specs.BoolLaws.{either}
 use Rattle.rows.specs.declared.table.Row.{Row}
 use Rattle.workload.specs.Workload.{work, cap, plain, carry}
 use Rattle.test.specs.Test.{interference, used, passes}

@@ -11,10 +11,10 @@ use native.Mathlib.Nat.{le-refl, le-trans, le-of-eq, ne-of-lt, eq-or-lt-of-le}
 use lib.Dec.{ltb, eqb}
 use borrow.Author.Tests.{ltb-true, ltb-false, lt-ltb, eqb-true, eq-eqb, ne-eqb}
 use Rattle.rows.specs.Board.{board}
-use Rattle.rows.specs.NumberLaws.{le-or-lt}
-use Rattle.rows.specs.Sums.{on, sum, first}
-use Rattle.rows.specs.BoolLaws.{either, not-both}
-use Rattle.rows.specs.SumLaws.{sum-mono, sum-add, sum-zero, count-one, first-is, sum-upto}
+use Rattle.sets.specs.NumberLaws.{le-or-lt}
+use Rattle.sets.specs.Sums.{on, sum, first}
+use Rattle.sets.specs.BoolLaws.{either, not-both}
+use Rattle.sets.specs.SumLaws.{sum-mono, sum-add, sum-zero, count-one, first-is, sum-upto}
 use Rattle.rows.specs.declared.table.Row.{Row}
 use Rattle.test.specs.Test.{passes}
 use Rattle.schedule.specs.Schedule.{Course, active, isJob, service, Pending, Sporadic, InTime, above, LegalJobs, Pattern, Scheduled, Proper, Enough}

@@ -11,11 +11,11 @@ use lib.Dec.{eqb}
 use lib.ListN.{length, take, getD}
 use lib.Seq.{take-length}
 use borrow.Author.Tests.{ltb-true, lt-ltb, eqb-true, eq-eqb}
-use Rattle.rows.specs.NumberLaws.{le-or-lt}
-use Rattle.rows.specs.Sums.{on, sum, count}
-use Rattle.rows.specs.BoolLaws.{either, not-both}
-use Rattle.rows.specs.SumLaws.{on-true, sum-mono, sum-add, sum-zero, first-is}
-use Rattle.rows.specs.Sets.{_⊆_}
+use Rattle.sets.specs.NumberLaws.{le-or-lt}
+use Rattle.sets.specs.Sums.{on, sum, count}
+use Rattle.sets.specs.BoolLaws.{either, not-both}
+use Rattle.sets.specs.SumLaws.{on-true, sum-mono, sum-add, sum-zero, first-is}
+use Rattle.sets.specs.Sets.{_⊆_}
 use Rattle.search.specs.Search.{rowsBelow, elem}
 use Rattle.search.specs.Demand.{Order, among}
 use Rattle.search.specs.OrderLaws.{elem-times, times-pos}

@@ -12,8 +12,8 @@ use lib.Dec.{eqb, ltb}
 use lib.ListN.{take, getD}
 use borrow.Author.Tests.{ltb-true}
 use Rattle.rows.specs.Board.{board}
-use Rattle.rows.specs.Sums.{on, sum, count}
-use Rattle.rows.specs.SumLaws.{sum-mono, sum-bound}
+use Rattle.sets.specs.Sums.{on, sum, count}
+use Rattle.sets.specs.SumLaws.{sum-mono, sum-bound}
 use Rattle.rows.specs.declared.table.Row.{Row}
 use Rattle.workload.specs.Workload.{work, cap, plain, carry, extra}
 use Rattle.test.specs.Test.{interference, used, passes}

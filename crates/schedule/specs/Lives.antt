@@ -4,7 +4,7 @@
 use Prim.Native.Nat.{ℕ, suc, _+_, _≤_, _<_}
 use mathlib.Core.Path.{_≡_}
 use mathlib.Core.Bool.{Bool, true, false, _&&_}
-use Rattle.rows.specs.Sums.{sum, count}
+use Rattle.sets.specs.Sums.{sum, count}
 use Rattle.rows.specs.declared.table.Row.{Row}
 use Rattle.schedule.specs.Schedule.{above}
 

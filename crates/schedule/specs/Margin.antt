@@ -10,7 +10,7 @@ use native.Mathlib.Omega.{arith}
 use native.Mathlib.Nat.{le-trans, lt-of-le-of-lt, mul-comm, mul-assoc, mul-le-mul, mul-le-mul-left, mul-lt-mul-of-pos-left, lt-of-mul-lt-mul-left, eq-or-lt-of-le, div-mul-le-self, lt-div-mul-add, lt-of-mul-lt-mul-right, min-eq-left, min-eq-right, min-le-left, min-le-right, le-of-lt}
 use lib.ListN.{take, getD}
 use Rattle.rows.specs.Board.{board}
-use Rattle.rows.specs.NumberLaws.{le-or-lt, div-mono}
+use Rattle.sets.specs.NumberLaws.{le-or-lt, div-mono}
 use Rattle.rows.specs.declared.table.Row.{Row}
 use Rattle.workload.specs.Workload.{work, cap, plain, carry}
 use Rattle.test.specs.Test.{interference, passes}

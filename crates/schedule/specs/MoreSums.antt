@@ -8,10 +8,10 @@ use native.Mathlib.Omega.{arith}
 use native.Mathlib.Nat.{le-refl, le-trans, le-add-right, add-suc}
 use lib.Dec.{ltb}
 use borrow.Author.Tests.{ltb-true, ltb-false}
-use Rattle.rows.specs.NumberLaws.{le-or-lt}
-use Rattle.rows.specs.Sums.{on, sum, count, first}
-use Rattle.rows.specs.BoolLaws.{either}
-use Rattle.rows.specs.SumLaws.{on-le, sum-add, sum-zero, sum-bound, sum-upto, first-is}
+use Rattle.sets.specs.NumberLaws.{le-or-lt}
+use Rattle.sets.specs.Sums.{on, sum, count, first}
+use Rattle.sets.specs.BoolLaws.{either}
+use Rattle.sets.specs.SumLaws.{on-le, sum-add, sum-zero, sum-bound, sum-upto, first-is}
 use Rattle.test.specs.Test.{top}
 use Rattle.test.specs.TopLaws.{top-zero}
 

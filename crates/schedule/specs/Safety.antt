@@ -11,9 +11,9 @@ use lib.Dec.{eqb}
 use lib.ListN.{length, take}
 use borrow.Author.Tests.{eqb-true, eqb-false}
 use Rattle.rows.specs.Board.{board, boardOf, limited}
-use Rattle.rows.specs.BoolLaws.{either}
+use Rattle.sets.specs.BoolLaws.{either}
 use Rattle.rows.specs.Numbers.{done}
-use Rattle.rows.specs.Sums.{times, on}
+use Rattle.sets.specs.Sums.{times, on}
 use Rattle.rows.specs.Table.{table, rowCount, tableFault}
 use Rattle.rows.specs.TableLaws.{Ranged, Valid, passed-valid}
 use Rattle.rows.specs.declared.table.Row.{Row}

@@ -10,7 +10,7 @@ use mathlib.Core.List.{List}
 use mathlib.Core.Option.{Option, none, some}
 use lib.Dec.{ltb, eqb}
 use lib.ListN.{length, getD}
-use Rattle.rows.specs.Sums.{count, first}
+use Rattle.sets.specs.Sums.{count, first}
 use Rattle.rows.specs.declared.table.Row.{Row}
 
 -- ---- one task

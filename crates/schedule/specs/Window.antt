@@ -9,10 +9,10 @@ use native.Mathlib.Omega.{arith}
 use native.Mathlib.Nat.{le-refl, le-trans, add-le-add, le-of-eq, add-suc}
 use borrow.Author.Tests.{leb-true, le-leb}
 use Rattle.rows.specs.Board.{board}
-use Rattle.rows.specs.NumberLaws.{le-or-lt}
-use Rattle.rows.specs.Sums.{on, sum, count}
-use Rattle.rows.specs.BoolLaws.{either, not-both}
-use Rattle.rows.specs.SumLaws.{on-le, on-mono, sum-mono, sum-add, sum-zero, sum-scale, count-le}
+use Rattle.sets.specs.NumberLaws.{le-or-lt}
+use Rattle.sets.specs.Sums.{on, sum, count}
+use Rattle.sets.specs.BoolLaws.{either, not-both}
+use Rattle.sets.specs.SumLaws.{on-le, on-mono, sum-mono, sum-add, sum-zero, sum-scale, count-le}
 use Rattle.rows.specs.declared.table.Row.{Row}
 use Rattle.workload.specs.Workload.{cap, plain, carry, extra}
 use Rattle.workload.specs.WorkloadLaws.{work-mono}

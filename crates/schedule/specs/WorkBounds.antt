@@ -7,9 +7,9 @@ use mathlib.Core.Logic.{⊎-elim}
 use mathlib.Core.Bool.{true, false}
 use native.Mathlib.Omega.{arith}
 use native.Mathlib.Nat.{le-refl, le-trans, div-mul-le-self, lt-div-mul-add}
-use Rattle.rows.specs.NumberLaws.{le-or-lt}
-use Rattle.rows.specs.BoolLaws.{either}
-use Rattle.rows.specs.SumLaws.{on-le, sum-upto}
+use Rattle.sets.specs.NumberLaws.{le-or-lt}
+use Rattle.sets.specs.BoolLaws.{either}
+use Rattle.sets.specs.SumLaws.{on-le, sum-upto}
 use Rattle.rows.specs.declared.table.Row.{Row}
 use Rattle.workload.specs.Workload.{work}
 use Rattle.schedule.specs.Schedule.{Proper}

@@ -9,7 +9,7 @@ use lib.Dec.{eqb}
 use lib.ListN.{length}
 use borrow.Author.Tests.{eq-eqb, ne-eqb}
 use Rattle.rows.specs.Numbers.{done, blocked, unfinished}
-use Rattle.rows.specs.Sets.{setOf, none}
+use Rattle.sets.specs.Sets.{setOf, none}
 use Rattle.search.specs.Search.{rowsBelow, free, Progress, finished}
 use Rattle.search.specs.Answers.{numberOf, groupOf}
 

@@ -9,10 +9,10 @@ use lib.Dec.{leb, eqb}
 use lib.ListN.{length, take, drop}
 use Rattle.rows.specs.Judge.{check, judge}
 use Rattle.rows.specs.Numbers.{done, blocked, unsound, short-output, unfinished}
-use Rattle.rows.specs.Sets.{has, setOf, without, none, withoutRow}
+use Rattle.sets.specs.Sets.{has, setOf, without, none, withoutRow}
 use Rattle.rows.specs.Table.{rowCount, tableChecks}
 use Rattle.rows.specs.Board.{Board, boardOf}
-use Rattle.rows.specs.declared.sets.Set.{Set}
+use Rattle.sets.specs.declared.Set.{Set}
 use Rattle.rows.specs.declared.terms.Terms.{Terms}
 use Rattle.test.specs.Test.{passes}
 use Rattle.search.specs.Search.{rowsBelow, free, Progress, Run, fresh, finished, run, bound, search}

@@ -11,10 +11,10 @@ use lib.Dec.{leb, eqb}
 use lib.ListN.{length, take, drop}
 use lib.Seq.{take-at}
 use borrow.Author.Tests.{leb-true, leb-false, le-leb, lt-leb, eqb-true, eqb-false, eq-eqb, ne-eqb}
-use Rattle.rows.specs.BoolLaws.{either}
+use Rattle.sets.specs.BoolLaws.{either}
 use Rattle.rows.specs.Judge.{Check, check}
 use Rattle.rows.specs.Numbers.{done, blocked, short-output}
-use Rattle.rows.specs.Sets.{setOf, none}
+use Rattle.sets.specs.Sets.{setOf, none}
 use Rattle.rows.specs.Table.{tableFault}
 use Rattle.rows.specs.TableLaws.{judge-refused, judge-passed, row-count-most, fault-most}
 use Rattle.rows.specs.Board.{Board, boardOf}

@@ -6,8 +6,8 @@ use mathlib.Core.Logic.{_↔_}
 use mathlib.Core.Bool.{Bool, true, false}
 use mathlib.Core.List.{List, [], _∷_}
 use lib.ListN.{length, take, getD}
-use Rattle.rows.specs.Sums.{on, count, times}
-use Rattle.rows.specs.Sets.{_⊆_, without}
+use Rattle.sets.specs.Sums.{on, count, times}
+use Rattle.sets.specs.Sets.{_⊆_, without}
 use Rattle.search.specs.Search.{elem, free}
 
 -- an order: each row of dom stands in it once, and nothing else does

@@ -8,10 +8,10 @@ use mathlib.Core.List.{List}
 use lib.ListN.{length}
 use native.Mathlib.Omega.{arith}
 use borrow.Author.Tests.{ltb-true, lt-ltb}
-use Rattle.rows.specs.Sums.{count}
+use Rattle.sets.specs.Sums.{count}
 use lib.Dec.{ltb}
-use Rattle.rows.specs.BoolLaws.{either, and-left, and-in}
-use Rattle.rows.specs.SumLaws.{count-mono, count-all, count-at, count-le}
+use Rattle.sets.specs.BoolLaws.{either, and-left, and-in}
+use Rattle.sets.specs.SumLaws.{count-mono, count-all, count-at, count-le}
 use Rattle.test.specs.TestLaws.{Antitone}
 use Rattle.search.specs.Search.{Progress, rowsBelow, free, run, fresh, next, finished, search}
 use Rattle.search.specs.Demand.{Truth}

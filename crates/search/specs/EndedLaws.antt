@@ -9,13 +9,13 @@ use native.Mathlib.Omega.{arith}
 use lib.Dec.{ltb}
 use lib.ListN.{length}
 use borrow.Author.Tests.{ltb-true, ltb-false}
-use Rattle.rows.specs.BoolLaws.{either, and-left}
-use Rattle.rows.specs.Sums.{count, first}
-use Rattle.rows.specs.SumLaws.{first-is}
-use Rattle.rows.specs.Sets.{has, setOf, without, below, withoutRow}
-use Rattle.rows.specs.SetLaws.{FitsWords, has-below, has-set-of-above}
+use Rattle.sets.specs.BoolLaws.{either, and-left}
+use Rattle.sets.specs.Sums.{count, first}
+use Rattle.sets.specs.SumLaws.{first-is}
+use Rattle.sets.specs.Sets.{has, setOf, without, below, withoutRow}
+use Rattle.sets.specs.SetLaws.{FitsWords, has-below, has-set-of-above}
 use Rattle.rows.specs.Board.{Board}
-use Rattle.rows.specs.declared.sets.Set.{Set}
+use Rattle.sets.specs.declared.Set.{Set}
 use Rattle.test.specs.Test.{passes}
 use Rattle.test.specs.TestLaws.{passes-antitone}
 use Rattle.search.specs.Search.{rowsBelow, free, finished, search}

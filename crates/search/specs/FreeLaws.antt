@@ -6,8 +6,8 @@ use mathlib.Core.Bool.{Bool, true, false, and-false}
 use mathlib.Core.List.{List, _∷_}
 use lib.Dec.{eqb}
 use borrow.Author.Tests.{eq-eqb}
-use Rattle.rows.specs.BoolLaws.{and-not, not-and, or-right, same}
-use Rattle.rows.specs.Sets.{_⊆_}
+use Rattle.sets.specs.BoolLaws.{and-not, not-and, or-right, same}
+use Rattle.sets.specs.Sets.{_⊆_}
 use Rattle.search.specs.Search.{elem, free}
 
 pub free-in : (dom : ℕ → Bool) (p : List ℕ) (i : ℕ) → free dom p i ≡ true → (dom i ≡ true) × (elem i p ≡ false)

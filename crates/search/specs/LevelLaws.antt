@@ -11,10 +11,10 @@ use native.Mathlib.Nat.{le-refl, zero-add, suc-add, add-comm, add-assoc}
 use native.Mathlib.Numerals.{add-one}
 use lib.Dec.{leb, ltb}
 use borrow.Author.Tests.{le-leb, lt-leb, lt-ltb, le-ltb}
-use Rattle.rows.specs.BoolLaws.{either}
-use Rattle.rows.specs.Sums.{on, count, first}
-use Rattle.rows.specs.SumLaws.{count-upto, first-is, first-taken, first-next, first-end}
-use Rattle.rows.specs.Sets.{without}
+use Rattle.sets.specs.BoolLaws.{either}
+use Rattle.sets.specs.Sums.{on, count, first}
+use Rattle.sets.specs.SumLaws.{count-upto, first-is, first-taken, first-next, first-end}
+use Rattle.sets.specs.Sets.{without}
 use Rattle.search.specs.Search.{Progress, Run, fresh, tested, counted, free, next, finished, probe, run, bound, search}
 use Rattle.search.specs.SearchLaws.{run-finished, run-add, search-ends}
 use Rattle.search.specs.Answers.{passing}

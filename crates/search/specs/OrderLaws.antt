@@ -10,11 +10,11 @@ use lib.Dec.{eqb}
 use lib.ListN.{length, take, drop, getD, length-append}
 use lib.Seq.{split-at, take-append-seam, getD-append-seam}
 use borrow.Author.Tests.{eqb-true, eq-eqb}
-use Rattle.rows.specs.Sums.{times, on, sum, count}
-use Rattle.rows.specs.BoolLaws.{either, not-both}
-use Rattle.rows.specs.SumLaws.{on-le, on-true, on-false, sum-add, sum-zero, count-one, count-at}
-use Rattle.rows.specs.Sets.{_⊆_, without}
-use Rattle.rows.specs.SetLaws.{without-in, in-without}
+use Rattle.sets.specs.Sums.{times, on, sum, count}
+use Rattle.sets.specs.BoolLaws.{either, not-both}
+use Rattle.sets.specs.SumLaws.{on-le, on-true, on-false, sum-add, sum-zero, count-one, count-at}
+use Rattle.sets.specs.Sets.{_⊆_, without}
+use Rattle.sets.specs.SetLaws.{without-in, in-without}
 use Rattle.test.specs.TestLaws.{Antitone}
 use Rattle.search.specs.Search.{elem, free}
 use Rattle.search.specs.Demand.{Order, among, Passing, Placing, Stuck}

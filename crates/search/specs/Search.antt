@@ -4,8 +4,8 @@ use Prim.Native.Nat.{ℕ, zero, suc, _*_, _-_, _/_}
 use mathlib.Core.Bool.{Bool, true, false, not, _&&_, _||_, cond}
 use mathlib.Core.List.{List, [], _∷_}
 use lib.Dec.{leb, ltb, eqb}
-use Rattle.rows.specs.Sums.{first}
-use Rattle.rows.specs.Sets.{without}
+use Rattle.sets.specs.Sums.{first}
+use Rattle.sets.specs.Sets.{without}
 
 -- all rows of a table of n rows
 abbrev pub rowsBelow : ℕ → ℕ → Bool

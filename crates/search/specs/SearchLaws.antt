@@ -9,10 +9,10 @@ use native.Mathlib.Omega.{arith}
 use native.Mathlib.Nat.{le-refl, le-of-suc-le-suc, eq-or-lt-of-le, zero-add, suc-add, le-div-iff-mul-le, zero-lt-suc}
 use lib.Dec.{leb}
 use borrow.Author.Tests.{leb-true, leb-false, le-leb, lt-leb}
-use Rattle.rows.specs.Sums.{on, count}
-use Rattle.rows.specs.BoolLaws.{either, not-both, and-in, and-left, and-right}
-use Rattle.rows.specs.SumLaws.{first-is, sum-mono, sum-less, on-mono, count-mono, count-le}
-use Rattle.rows.specs.Sets.{without}
+use Rattle.sets.specs.Sums.{on, count}
+use Rattle.sets.specs.BoolLaws.{either, not-both, and-in, and-left, and-right}
+use Rattle.sets.specs.SumLaws.{first-is, sum-mono, sum-less, on-mono, count-mono, count-le}
+use Rattle.sets.specs.Sets.{without}
 use Rattle.search.specs.Search.{Progress, fresh, tested, free, next, finished, probe, run, bound, search}
 use Rattle.search.specs.Demand.{Placing, Stuck}
 use Rattle.search.specs.FreeLaws.{free-in, free-head, free-tail}

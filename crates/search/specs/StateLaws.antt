@@ -13,13 +13,13 @@ use lib.Dec.{leb, ltb, eqb}
 use lib.ListN.{length, getD, take, drop, set, replicate, length-append, length-drop, length-replicate, replicate-append-replicate, take-append-drop}
 use lib.Seq.{take-at, drop-at, set-at, drop-cons, drop-drop, take-all, length-take-le}
 use borrow.Author.Tests.{eqb-true, eq-eqb, ne-eqb, ltb-true, ltb-false, le-ltb, leb-true, le-leb}
-use Rattle.rows.specs.BoolLaws.{either, not-both, and-left, and-right}
-use Rattle.rows.specs.Sets.{has, setOf, without, below, withoutRow}
-use Rattle.rows.specs.SetLaws.{FitsWords, has-set-of, has-set-of-above, set-of-has, set-ext}
+use Rattle.sets.specs.BoolLaws.{either, not-both, and-left, and-right}
+use Rattle.sets.specs.Sets.{has, setOf, without, below, withoutRow}
+use Rattle.sets.specs.SetLaws.{FitsWords, has-set-of, has-set-of-above, set-of-has, set-ext}
 use Rattle.search.specs.Search.{rowsBelow, free, Progress}
 use Rattle.search.specs.OrderLaws.{Distinct}
 use Rattle.search.specs.State.{rowsPlaced, placedRows, orderOf, progressOf, stateOf, freshState, distinct, blankFrom, sound}
-use Rattle.rows.specs.declared.sets.Set.{Set}
+use Rattle.sets.specs.declared.Set.{Set}
 use Rattle.search.specs.declared.state.State.{State}
 
 blanks : ℕ → List ℕ

@@ -11,16 +11,16 @@ use native.Mathlib.Nat.{sub-zero}
 use lib.Dec.{eqb}
 use lib.ListN.{length}
 use borrow.Author.Tests.{eqb-true, eq-eqb, ne-eqb, eqb-false, le-leb, lt-leb, ltb-true}
-use Rattle.rows.specs.Sums.{first}
-use Rattle.rows.specs.SumLaws.{count-at}
-use Rattle.rows.specs.BoolLaws.{either}
+use Rattle.sets.specs.Sums.{first}
+use Rattle.sets.specs.SumLaws.{count-at}
+use Rattle.sets.specs.BoolLaws.{either}
 use Rattle.rows.specs.Judge.{Check, check}
 use Rattle.rows.specs.Numbers.{done, blocked, unsound, unfinished}
-use Rattle.rows.specs.Sets.{has, setOf, without, none, withoutRow}
+use Rattle.sets.specs.Sets.{has, setOf, without, none, withoutRow}
 use Rattle.rows.specs.Table.{rowCount, tableFault}
 use Rattle.rows.specs.TableLaws.{judge-refused, judge-passed, row-count-most, fault-most}
 use Rattle.rows.specs.Board.{Board, boardOf}
-use Rattle.rows.specs.declared.sets.Set.{Set}
+use Rattle.sets.specs.declared.Set.{Set}
 use Rattle.rows.specs.declared.terms.Terms.{Terms}
 use Rattle.test.specs.Test.{passes}
 use Rattle.test.specs.TestLaws.{passes-antitone}

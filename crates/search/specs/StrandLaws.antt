@@ -6,9 +6,9 @@ use mathlib.Core.Bool.{Bool, true, false}
 use mathlib.Core.List.{List, [], _∷_}
 use lib.Dec.{eqb}
 use borrow.Author.Tests.{eqb-true}
-use Rattle.rows.specs.BoolLaws.{not-both}
-use Rattle.rows.specs.Sets.{_⊆_, without}
-use Rattle.rows.specs.SetLaws.{without-mono}
+use Rattle.sets.specs.BoolLaws.{not-both}
+use Rattle.sets.specs.Sets.{_⊆_, without}
+use Rattle.sets.specs.SetLaws.{without-mono}
 use Rattle.test.specs.TestLaws.{Antitone}
 use Rattle.search.specs.Search.{elem, free}
 use Rattle.search.specs.Demand.{Placing, Stuck, Blocked}

@@ -5,9 +5,9 @@ use mathlib.Core.Path.{_≡_}
 use mathlib.Core.Bool.{true}
 use mathlib.Core.List.{List}
 use lib.ListN.{length, getD}
-use Rattle.rows.specs.Sets.{has, withoutRow}
+use Rattle.sets.specs.Sets.{has, withoutRow}
 use Rattle.rows.specs.Table.{table, rowCount}
-use Rattle.rows.specs.declared.sets.Set.{Set}
+use Rattle.sets.specs.declared.Set.{Set}
 use Rattle.test.specs.Test.{plainSum}
 
 -- from here on a number stands for a sum that is not known

@@ -11,14 +11,14 @@ use lib.Dec.{eqb}
 use lib.ListN.{length, getD, set, replicate, length-replicate, getD-replicate, length-set}
 use lib.Seq.{getD-set-same, getD-set-other}
 use borrow.Author.Tests.{eqb-true, eqb-false}
-use Rattle.rows.specs.BoolLaws.{either, not-both}
-use Rattle.rows.specs.NumberLaws.{below-next}
-use Rattle.rows.specs.PassLaws.{Pass, next, next-from, pass-start, pass-next, pass-here, pass-end}
-use Rattle.rows.specs.Sets.{has, without, withoutRow}
-use Rattle.rows.specs.SetLaws.{has-without, without-in, without-other, without-at, without-swap}
+use Rattle.sets.specs.BoolLaws.{either, not-both}
+use Rattle.sets.specs.NumberLaws.{below-next}
+use Rattle.sets.specs.PassLaws.{Pass, next, next-from, pass-start, pass-next, pass-here, pass-end}
+use Rattle.sets.specs.Sets.{has, without, withoutRow}
+use Rattle.sets.specs.SetLaws.{has-without, without-in, without-other, without-at, without-swap}
 use Rattle.rows.specs.Table.{table, rowCount}
 use Rattle.rows.specs.TableLaws.{row-count-most, row-count-bits}
-use Rattle.rows.specs.declared.sets.Set.{Set}
+use Rattle.sets.specs.declared.Set.{Set}
 use Rattle.test.specs.Test.{plainOn}
 use Rattle.test.specs.TestLaws.{plain-sum-less, plain-sum-ext}
 use Rattle.search.specs.Tally.{unknown, leftSum, Known, Tallied}

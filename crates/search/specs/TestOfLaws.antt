@@ -4,10 +4,10 @@ use Prim.Native.Nat.{ℕ, _≤_, _<_}
 use mathlib.Core.Path.{_≡_, refl}
 use mathlib.Core.Bool.{Bool}
 use native.Mathlib.Omega.{arith}
-use Rattle.rows.specs.Sets.{has, setOf, without, withoutRow}
-use Rattle.rows.specs.SetLaws.{has-set-of, has-without}
+use Rattle.sets.specs.Sets.{has, setOf, without, withoutRow}
+use Rattle.sets.specs.SetLaws.{has-set-of, has-without}
 use Rattle.rows.specs.Board.{Board}
-use Rattle.rows.specs.declared.sets.Set.{Set}
+use Rattle.sets.specs.declared.Set.{Set}
 use Rattle.test.specs.Test.{passes}
 use Rattle.test.specs.TestLaws.{passes-ext}
 

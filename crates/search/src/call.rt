@@ -3,12 +3,12 @@ ghost use mathlib.Core.Path.{_≡_};
 ghost use mathlib.Core.List.{_++_};
 ghost use Prim.Native.Nat.{_≤_, _<_};
 ghost use lib.ListN.{length, take, drop};
-ghost use Rattle.rows.specs.Sets.{none};
+ghost use Rattle.sets.specs.Sets.{none};
 ghost use Rattle.rows.specs.Board.{boardOf, limited};
 ghost use Rattle.search.specs.Answers.{foundOf, writtenOf, Demanded};
 use crate::ended::search_rows;
-use rows::Set;
 use rows::numbers;
+use sets::Set;
 
 // The search's answer: the number, with 3 the lowest row at fault, with 4 the blocked group, and the tests made.
 #[repr(C)]

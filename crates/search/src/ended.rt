@@ -1,14 +1,14 @@
 // The search of any rows of a table, by value.
 ghost use mathlib.Core.Path.{_≡_};
-ghost use Rattle.rows.specs.Sets.{has};
+ghost use Rattle.sets.specs.Sets.{has};
 ghost use Rattle.rows.specs.Board.{boardOf};
 ghost use Rattle.search.specs.Answers.{endedOf};
 use crate::scan;
 use crate::state::fresh;
 use crate::state::place;
 use crate::tally;
-use rows::Set;
 use rows::Terms;
+use sets::Set;
 
 // Where a search ended: entries n - placed to n - 1 of the order are the rows placed, the highest level first, all others
 // are 255; the rows left; and the tests made.

@@ -1,16 +1,16 @@
 // One level: unplaced rows tried in table sequence.
 ghost use mathlib.Core.Path.{_≡_};
 ghost use Prim.Native.Nat.{suc, _-_, min};
-ghost use Rattle.rows.specs.Sums.{count, first};
-ghost use Rattle.rows.specs.Sets.{has};
+ghost use Rattle.sets.specs.Sums.{count, first};
+ghost use Rattle.sets.specs.Sets.{has};
 ghost use Rattle.rows.specs.Table.{rowCount};
 ghost use Rattle.rows.specs.Board.{boardOf};
 ghost use Rattle.test.specs.Test.{passes};
 ghost use Rattle.search.specs.Answers.{passing};
 ghost use Rattle.search.specs.Tally.{Tallied};
 use crate::tally;
-use rows::Set;
 use rows::Terms;
+use sets::Set;
 
 // The first row that passed, n where none did, and the tests made.
 pub(crate) struct Scanned {

@@ -3,10 +3,10 @@ ghost use mathlib.Core.Path.{_≡_};
 ghost use mathlib.Core.Bool.{true};
 ghost use Prim.Native.Nat.{_-_, _≤_, _<_};
 ghost use lib.ListN.{length};
-ghost use Rattle.rows.specs.Sets.{setOf};
+ghost use Rattle.sets.specs.Sets.{setOf};
 ghost use Rattle.search.specs.Search.{rowsBelow, free};
 ghost use Rattle.search.specs.State.{placedRows, rowsPlaced, freshState, placedAt, blankFrom, distinct, sound};
-use rows::Set;
+use sets::Set;
 
 // Entries n - placed to n - 1 of the order are the rows placed, the highest level first; all others are 255.
 pub struct State {

@@ -2,7 +2,7 @@
 ghost use mathlib.Core.Path.{_≡_};
 ghost use mathlib.Core.Bool.{true};
 ghost use Prim.Native.Nat.{_<_};
-ghost use Rattle.rows.specs.Sets.{has, none, setOf};
+ghost use Rattle.sets.specs.Sets.{has, none, setOf};
 ghost use Rattle.rows.specs.Table.{rowCount};
 ghost use Rattle.rows.specs.Board.{boardOf, limited};
 ghost use Rattle.search.specs.Search.{rowsBelow, free};
@@ -14,9 +14,9 @@ use crate::state::State;
 use crate::state::left_of;
 use crate::state::place;
 use crate::tally;
-use rows::Set;
 use rows::Terms;
 use rows::numbers;
+use sets::Set;
 
 // A step's answer: the number, with 3 the lowest row at fault, with 4 the blocked group, the tests made in this call, and the new state.
 pub struct Stepped {

@@ -3,13 +3,13 @@
 ghost use mathlib.Core.Path.{_≡_};
 ghost use mathlib.Core.Bool.{true};
 ghost use Prim.Native.Nat.{_<_};
-ghost use Rattle.rows.specs.Sets.{has, withoutRow};
+ghost use Rattle.sets.specs.Sets.{has, withoutRow};
 ghost use Rattle.rows.specs.Table.{rowCount};
 ghost use Rattle.rows.specs.Board.{boardOf};
 ghost use Rattle.test.specs.Test.{passes as Test·passes};
 ghost use Rattle.search.specs.Tally.{Tallied};
-use rows::Set;
 use rows::Terms;
+use sets::Set;
 
 // Stands for a sum that is not known, and that the next test of the row makes.
 pub(crate) const UNKNOWN: u32 = 0xffff_fffe;

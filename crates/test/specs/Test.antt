@@ -4,14 +4,14 @@ use Prim.Native.Nat.{ℕ, zero, suc, _+_, _/_, max}
 use mathlib.Core.Bool.{Bool, false, not, _&&_}
 use mathlib.Core.List.{List, [], _∷_, _++_}
 use lib.Dec.{leb, ltb}
-use Rattle.rows.specs.Sums.{on, sum}
+use Rattle.sets.specs.Sums.{on, sum}
 use Rattle.rows.specs.Judge.{check, judge}
 use Rattle.rows.specs.Numbers.{done, malformed}
-use Rattle.rows.specs.Sets.{has, within}
+use Rattle.sets.specs.Sets.{has, within}
 use Rattle.rows.specs.Table.{rowCount, tableChecks}
 use Rattle.rows.specs.Board.{Board, boardOf}
 use Rattle.rows.specs.declared.table.Row.{Row}
-use Rattle.rows.specs.declared.sets.Set.{Set}
+use Rattle.sets.specs.declared.Set.{Set}
 use Rattle.rows.specs.declared.terms.Terms.{Terms}
 use Rattle.workload.specs.Workload.{plain, extra}
 use Rattle.test.specs.declared.Judged.{Judged}

@@ -9,12 +9,12 @@ use native.Mathlib.Omega.{arith}
 use native.Mathlib.Nat.{le-trans, le-refl, mul-zero, add-le-add, mul-le-mul-right, mul-le-mul-left, div-lt-iff-lt-mul, div-le-self, div-zero, add-zero}
 use lib.Dec.{leb, ltb, eqb, eqb·suc-zero}
 use borrow.Author.Tests.{leb-true, le-leb, lt-ltb, ltb-true}
-use Rattle.rows.specs.BoolLaws.{same}
-use Rattle.rows.specs.NumberLaws.{div-mono, ltb-shift}
-use Rattle.rows.specs.Sums.{on, count}
-use Rattle.rows.specs.SumLaws.{on-mono, on-ext, on-le, sum-mono, sum-ext, sum-add, sum-bound, sum-scale, count-le}
-use Rattle.rows.specs.Sets.{_⊆_, without}
-use Rattle.rows.specs.SetLaws.{sum-without}
+use Rattle.sets.specs.BoolLaws.{same}
+use Rattle.sets.specs.NumberLaws.{div-mono, ltb-shift}
+use Rattle.sets.specs.Sums.{on, count}
+use Rattle.sets.specs.SumLaws.{on-mono, on-ext, on-le, sum-mono, sum-ext, sum-add, sum-bound, sum-scale, count-le}
+use Rattle.sets.specs.Sets.{_⊆_, without}
+use Rattle.sets.specs.SetLaws.{sum-without}
 use Rattle.rows.specs.declared.table.Row.{Row}
 use Rattle.rows.specs.Board.{Board, carrying, holding}
 use Rattle.rows.specs.TableLaws.{Ranged}

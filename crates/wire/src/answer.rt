@@ -2,7 +2,7 @@
 ghost use Prim.Native.Nat.{_<_};
 use crate::Bytes;
 use crate::Words;
-use rows::Set;
+use sets::Set;
 
 fn wide(x: u32) -> u64 {
     x as u64

@@ -1,6 +1,6 @@
 // Numbers among bytes, high byte first.
 ghost use Prim.Native.Nat.{_+_, _≤_, _<_};
-use rows::Set;
+use sets::Set;
 
 // The numbers of a case, or the words of a list.
 pub type Block = [u8; 2048];

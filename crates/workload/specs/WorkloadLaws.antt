@@ -6,7 +6,7 @@ use mathlib.Core.Logic.{⊎-elim}
 use native.Mathlib.Omega.{arith}
 use native.Mathlib.Nat.{mul-zero, add-mul, add-div-right, add-mod-right, mod-eq-sub-div-mul, mul-le-mul-right, mul-le-mul-left, eq-or-lt-of-le, div-mul-le-self}
 use Rattle.rows.specs.declared.table.Row.{Row}
-use Rattle.rows.specs.NumberLaws.{div-mono}
+use Rattle.sets.specs.NumberLaws.{div-mono}
 use Rattle.rows.specs.TableLaws.{Ranged}
 use Rattle.workload.specs.Workload.{work, cap, plain, carry, extra}
 

@@ -8,7 +8,7 @@ use lib.ListN.{length, take, length-replicate}
 use lib.Seq.{length-take-le}
 use borrow.Author.Needs.{needs}
 use Rattle.rows.specs.Board.{boardOf, limited}
-use Rattle.rows.specs.Sets.{has}
+use Rattle.sets.specs.Sets.{has}
 use Rattle.rows.specs.Table.{rowCount}
 use Rattle.rows.specs.TableLaws.{row-count-most}
 use Rattle.search.specs.Answers.{placedOf, foundOf}

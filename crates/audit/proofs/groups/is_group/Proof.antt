@@ -3,7 +3,7 @@ use mathlib.Core.Path.{refl}
 use native.Mathlib.Omega.{arith}
 use borrow.Author.Needs.{needs}
 use borrow.Author.Tests.{lt-ltb, le-ltb}
-use Rattle.rows.specs.Sets.{size}
+use Rattle.sets.specs.Sets.{size}
 use Rattle.audit.specs.Audit.{isGroup}
 use Rattle.audit.proofs.groups.is_group.Statement.{statement}
 use Rattle.audit.proofs.groups.is_group.Tie as tie

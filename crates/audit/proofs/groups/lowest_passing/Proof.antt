@@ -4,9 +4,9 @@ use Prim.Native.Nat.{_-_}
 use mathlib.Core.Path.{_≡_, refl, sym, _∙_}
 use native.Mathlib.Nat.{sub-zero}
 use borrow.Author.Needs.{needs}
-use Rattle.rows.specs.Sums.{first}
-use Rattle.rows.specs.SumLaws.{first-taken, first-next, first-end}
-use Rattle.rows.specs.Sets.{has}
+use Rattle.sets.specs.Sums.{first}
+use Rattle.sets.specs.SumLaws.{first-taken, first-next, first-end}
+use Rattle.sets.specs.Sets.{has}
 use Rattle.rows.specs.Board.{boardOf}
 use Rattle.test.specs.Test.{passes}
 use Rattle.search.specs.Answers.{passing}

@@ -6,9 +6,9 @@ use native.Mathlib.Omega.{arith}
 use borrow.Author.Needs.{needs}
 use borrow.Author.Tests.{not-true, not-false}
 use lib.ListN.{length, getD, take, drop}
-use Rattle.rows.specs.Sets.{setOf, withoutRow}
+use Rattle.sets.specs.Sets.{setOf, withoutRow}
 use Rattle.rows.specs.Table.{rowCount}
-use Rattle.rows.specs.declared.sets.Set.{Set}
+use Rattle.sets.specs.declared.Set.{Set}
 use Rattle.rows.specs.Board.{boardOf}
 use Rattle.rows.specs.TableLaws.{row-count-most}
 use Rattle.test.specs.Test.{passes}

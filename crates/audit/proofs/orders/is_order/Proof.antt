@@ -9,9 +9,9 @@ use borrow.Author.Needs.{needs}
 use borrow.Author.Tests.{eq-eqb, ne-eqb, not-true, not-false}
 use lib.Dec.{eqb}
 use lib.ListN.{length, getD, drop, drop-of-length-le}
-use Rattle.rows.specs.BoolLaws.{and-fails}
-use Rattle.rows.specs.Sets.{has, setOf, withoutRow}
-use Rattle.rows.specs.declared.sets.Set.{Set}
+use Rattle.sets.specs.BoolLaws.{and-fails}
+use Rattle.sets.specs.Sets.{has, setOf, withoutRow}
+use Rattle.sets.specs.declared.Set.{Set}
 use Rattle.search.specs.Search.{rowsBelow, free}
 use Rattle.search.specs.State.{distinct}
 use Rattle.audit.specs.Audit.{isOrder}

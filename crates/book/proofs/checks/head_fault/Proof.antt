@@ -8,7 +8,7 @@ use native.Mathlib.Omega.{arith}
 use lib.Dec.{leb}
 use lib.ListN.{length, getD}
 use borrow.Author.Tests.{eq-eqb, ne-eqb, le-leb, lt-leb, ltb-true, ltb-false}
-use Rattle.rows.specs.BoolLaws.{and-in, and-fails}
+use Rattle.sets.specs.BoolLaws.{and-in, and-fails}
 use Rattle.rows.specs.TableLaws.{someCores}
 use Rattle.book.specs.Layout.{editionOne, blocks}
 use Rattle.book.specs.Read.{content, headChecks}

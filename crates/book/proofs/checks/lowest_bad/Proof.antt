@@ -3,8 +3,8 @@
 use Prim.Native.Nat.{_-_}
 use mathlib.Core.Path.{_≡_, refl, sym, _∙_}
 use native.Mathlib.Nat.{sub-zero}
-use Rattle.rows.specs.Sums.{first}
-use Rattle.rows.specs.SumLaws.{first-taken, first-next, first-end}
+use Rattle.sets.specs.Sums.{first}
+use Rattle.sets.specs.SumLaws.{first-taken, first-next, first-end}
 use Rattle.rows.specs.Table.{faulty}
 use Rattle.rows.specs.TableLaws.{read-fault, read-fine}
 use Rattle.book.specs.Layout.{editionOne}

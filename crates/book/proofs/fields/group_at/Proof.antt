@@ -3,7 +3,7 @@
 use Prim.Native.Nat.{ℕ}
 use mathlib.Core.Path.{ap₂}
 use native.Mathlib.Omega.{arith}
-use Rattle.rows.specs.declared.sets.Set.{Set}
+use Rattle.sets.specs.declared.Set.{Set}
 use borrow.Author.Needs.{needs}
 use Rattle.book.proofs.fields.group_at.Statement.{statement}
 use Rattle.book.proofs.fields.group_at.Tie as tie

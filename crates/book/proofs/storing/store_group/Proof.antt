@@ -3,7 +3,7 @@
 use Prim.Native.Nat.{_-_, _≤_}
 use mathlib.Core.Path.{_≡_}
 use native.Mathlib.Omega.{arith}
-use Rattle.rows.specs.Sets.{word}
+use Rattle.sets.specs.Sets.{word}
 use Rattle.book.specs.Bytes.{byte}
 use Rattle.book.specs.PartsLaws.{Storing, storing-none, storing-one}
 use borrow.Author.Needs.{needs}

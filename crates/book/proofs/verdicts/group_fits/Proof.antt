@@ -4,7 +4,7 @@ use mathlib.Core.Path.{_≡_, _∙_}
 use mathlib.Core.Logic.{⊎-elim}
 use native.Mathlib.Omega.{arith}
 use borrow.Author.Tests.{eqb-true, eqb-false, eq-eqb, ne-eqb}
-use Rattle.rows.specs.Sets.{word}
+use Rattle.sets.specs.Sets.{word}
 use Rattle.book.specs.FormLaws.{group-none, group-some}
 use borrow.Author.Needs.{needs}
 use Rattle.book.proofs.verdicts.group_fits.Statement.{statement}

@@ -5,7 +5,7 @@ use mathlib.Core.Path.{_≡_, refl, sym, _∙_}
 use mathlib.Core.Bool.{true}
 use native.Mathlib.Omega.{arith}
 use borrow.Author.Tests.{not-true, not-false}
-use Rattle.rows.specs.Sets.{setOf}
+use Rattle.sets.specs.Sets.{setOf}
 use Rattle.book.specs.Bytes.{all}
 use Rattle.book.specs.ByteLaws.{all-fails, all-more}
 use Rattle.book.specs.Form.{among, entryFits, orderFits}

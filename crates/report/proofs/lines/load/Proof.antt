@@ -8,7 +8,7 @@ use native.Mathlib.Nat.{div-le-self}
 use borrow.Author.Needs.{needs}
 use Rattle.rows.specs.Table.{rowCount}
 use Rattle.rows.specs.TableLaws.{row-count-most}
-use Rattle.rows.specs.Sums as S
+use Rattle.sets.specs.Sums as S
 use Rattle.report.specs.Listing.{share, load}
 use Rattle.report.proofs.lines.load.Statement.{statement}
 use Rattle.report.proofs.lines.load.Tie as tie

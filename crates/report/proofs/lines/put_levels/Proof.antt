@@ -5,7 +5,7 @@ use mathlib.Core.Path.{_≡_}
 use native.Mathlib.Omega.{arith}
 use lib.ListN.{length, take}
 use borrow.Author.Needs.{needs}
-use Rattle.rows.specs.Sets.{setOf}
+use Rattle.sets.specs.Sets.{setOf}
 use Rattle.search.specs.Demand.{among}
 use Rattle.report.specs.Text.{lines}
 use Rattle.report.specs.TextLaws.{Puts, puts-nothing, puts-length, puts-line, room-line}

@@ -2,7 +2,7 @@
 -- For a row that is no member nothing is put. Assumes nothing.
 use mathlib.Core.Path.{_≡_, sym, _∙_}
 use borrow.Author.Needs.{needs}
-use Rattle.rows.specs.Sets.{has, withoutRow}
+use Rattle.sets.specs.Sets.{has, withoutRow}
 use Rattle.report.specs.TextLaws.{puts-nothing}
 use Rattle.report.specs.Listing.{rowLine, memberLine}
 use Rattle.report.specs.ListingLaws.{member-line, no-member}

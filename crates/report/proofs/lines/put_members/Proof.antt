@@ -4,7 +4,7 @@ use Prim.Native.Nat.{_-_, _≤_}
 use mathlib.Core.Path.{_≡_}
 use native.Mathlib.Omega.{arith}
 use borrow.Author.Needs.{needs}
-use Rattle.rows.specs.Sets.{has}
+use Rattle.sets.specs.Sets.{has}
 use Rattle.rows.specs.Table.{rowCount}
 use Rattle.report.specs.Text.{lines}
 use Rattle.report.specs.TextLaws.{Puts, puts-nothing, puts-length, puts-line, room-line}

@@ -4,7 +4,7 @@ use Prim.Native.Nat.{ℕ}
 use mathlib.Core.Path.{_≡_, ap₂}
 use mathlib.Core.List.{List, _++_}
 use borrow.Author.Needs.{needs}
-use Rattle.rows.specs.Sets.{has}
+use Rattle.sets.specs.Sets.{has}
 use Rattle.report.specs.Text.{field}
 use Rattle.report.specs.TextLaws.{Room, room-first, room-rest, puts-then, puts-length}
 use Rattle.report.specs.Listing.{row-name, c-name, d-name, t-name, used-name, line-feed, rowText, rowLine}

@@ -8,7 +8,7 @@ use lib.Dec.{eqb, leb}
 use lib.ListN.{length}
 use borrow.Author.Needs.{needs}
 use borrow.Author.Tests.{ltb-true, ltb-false, eq-eqb, ne-eqb, le-leb, lt-leb}
-use Rattle.rows.specs.BoolLaws.{and-in, and-fails}
+use Rattle.sets.specs.BoolLaws.{and-in, and-fails}
 use Rattle.rows.specs.TableLaws.{wellSized, someCores, fault-length, fault-cores, fault-row, fault-none}
 use Rattle.rows.proofs.table.check_table.Statement.{statement}
 use Rattle.rows.proofs.table.check_table.Tie as tie

@@ -6,10 +6,10 @@ use mathlib.Core.Logic.{⊎-elim}
 use mathlib.Core.Bool.{false}
 use native.Mathlib.Omega.{arith}
 use borrow.Author.Needs.{needs}
-use Rattle.rows.specs.BoolLaws.{and-left}
-use Rattle.rows.specs.SumLaws.{first-is, count-le}
-use Rattle.rows.specs.Sets.{has}
-use Rattle.rows.specs.SetLaws.{has-above}
+use Rattle.sets.specs.BoolLaws.{and-left}
+use Rattle.sets.specs.SumLaws.{first-is, count-le}
+use Rattle.sets.specs.Sets.{has}
+use Rattle.sets.specs.SetLaws.{has-above}
 use Rattle.rows.specs.Board.{boardOf}
 use Rattle.rows.specs.Table.{rowCount}
 use Rattle.rows.specs.TableLaws.{row-count-most}

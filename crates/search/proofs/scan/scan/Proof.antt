@@ -8,10 +8,10 @@ use native.Mathlib.Omega.{arith}
 use native.Mathlib.Nat.{sub-zero}
 use native.Mathlib.Numerals.{add-one}
 use borrow.Author.Needs.{needs}
-use Rattle.rows.specs.BoolLaws.{and-in, and-fails}
-use Rattle.rows.specs.Sums.{count, first}
-use Rattle.rows.specs.SumLaws.{count-le, first-taken, first-next, first-end}
-use Rattle.rows.specs.Sets.{has, without}
+use Rattle.sets.specs.BoolLaws.{and-in, and-fails}
+use Rattle.sets.specs.Sums.{count, first}
+use Rattle.sets.specs.SumLaws.{count-le, first-taken, first-next, first-end}
+use Rattle.sets.specs.Sets.{has, without}
 use Rattle.rows.specs.Board.{boardOf}
 use Rattle.rows.specs.TableLaws.{row-count-most}
 use Rattle.test.specs.Test.{passes}

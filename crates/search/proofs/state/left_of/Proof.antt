@@ -6,7 +6,7 @@ use mathlib.Core.Logic.{⊎-elim}
 use native.Mathlib.Omega.{arith}
 use native.Mathlib.Nat.{sub-zero}
 use borrow.Author.Tests.{not-true, not-false, ltb-true, ltb-false}
-use Rattle.rows.specs.BoolLaws.{not-both}
+use Rattle.sets.specs.BoolLaws.{not-both}
 use Rattle.search.specs.State.{blankFrom}
 use Rattle.search.specs.StateLaws.{unsound-is, sound-rows}
 use borrow.Author.Needs.{needs}

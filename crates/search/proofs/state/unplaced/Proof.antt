@@ -7,9 +7,9 @@ use native.Mathlib.Omega.{arith}
 use borrow.Author.Needs.{needs}
 use borrow.Author.Tests.{not-true, not-false}
 use lib.ListN.{getD}
-use Rattle.rows.specs.BoolLaws.{not-both}
-use Rattle.rows.specs.Sets.{has, setOf, withoutRow}
-use Rattle.rows.specs.declared.sets.Set.{Set}
+use Rattle.sets.specs.BoolLaws.{not-both}
+use Rattle.sets.specs.Sets.{has, setOf, withoutRow}
+use Rattle.sets.specs.declared.Set.{Set}
 use Rattle.search.specs.Search.{rowsBelow, free}
 use Rattle.search.specs.State.{rowsPlaced, distinct}
 use Rattle.search.specs.StateLaws.{distinct-fails, distinct-next, all-unplaced, unplaced-next}

@@ -3,9 +3,9 @@
 use mathlib.Core.Path.{_≡_, sym, ap₂, _∙_}
 use native.Mathlib.Omega.{arith}
 use borrow.Author.Needs.{needs}
-use Rattle.rows.specs.Sets.{has, withoutRow}
+use Rattle.sets.specs.Sets.{has, withoutRow}
 use Rattle.rows.specs.TableLaws.{row-count-most}
-use Rattle.rows.specs.declared.sets.Set.{Set}
+use Rattle.sets.specs.declared.Set.{Set}
 use Rattle.rows.specs.Board.{boardOf}
 use Rattle.test.specs.Test.{passes}
 use Rattle.search.specs.StepLaws.{probed-passed, probed-failed}

@@ -4,8 +4,8 @@ use Prim.Native.Nat.{_+_, _-_, _<_}
 use mathlib.Core.Logic.{⊎-elim}
 use native.Mathlib.Omega.{arith}
 use borrow.Author.Needs.{needs}
-use Rattle.rows.specs.PassLaws.{next-from}
-use Rattle.rows.specs.Sets.{has}
+use Rattle.sets.specs.PassLaws.{next-from}
+use Rattle.sets.specs.Sets.{has}
 use Rattle.rows.specs.Table.{rowCount}
 use Rattle.rows.specs.TableLaws.{row-count-most}
 use Rattle.search.specs.TallyLaws.{Taking, taking-start, taking-fits, taking-unknown, taking-less, taking-end}
