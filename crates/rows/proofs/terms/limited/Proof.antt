@@ -5,4 +5,4 @@ use Rattle.rows.proofs.terms.limited.Statement.{statement}
 use Rattle.rows.proofs.terms.limited.Tie as tie
 
 pub limited-spec : {M : Type 1} → statement M
-limited-spec = tie.close (tie.spec (λ c. rw (c .if1 .taken) refl) (λ c. search needs) (λ c. search needs))
+limited-spec = tie.close (tie.spec (λ c. rw (c .if1 .taken) refl) (λ c. search needs) (λ c. refl))
