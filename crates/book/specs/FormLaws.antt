@@ -19,7 +19,7 @@ use Rattle.sets.specs.declared.Set.{Set}
 use Rattle.book.specs.Bytes.{all}
 use Rattle.book.specs.ByteLaws.{side, all-at, all-make, all-ext, and-full}
 use Rattle.book.specs.Form.{among, entryFits, orderFits, groupFits, empty, formed}
-use Rattle.book.specs.Parts.{freeAt, free}
+use Rattle.book.specs.Parts.{freeAt, restFree}
 use Rattle.book.specs.declared.verdicts.Verdict.{Verdict}
 
 module _ (order : List ℕ) where
@@ -44,18 +44,18 @@ module _ (order : List ℕ) where
       (either (ltb k p)))
 
 -- entries are 255 where all their bits together are 255
-pub free-none : (p : ℕ) (order : List ℕ) → eqb 255 255 ≡ free p order p
-unfolding free
+pub free-none : (p : ℕ) (order : List ℕ) → eqb 255 255 ≡ restFree p order p
+unfolding restFree
 free-none p order = sym (all-make p (freeAt p order) (λ i l. rw (lt-ltb i p l) refl))
 
-pub free-more : (p : ℕ) (order : List ℕ) (i bits : ℕ) → p ≤ i → bits < 256 → getD order i 0 < 256 → eqb bits 255 ≡ free p order i
-    → eqb (bitAnd bits (getD order i 0)) 255 ≡ free p order (i + 1)
-unfolding free
+pub free-more : (p : ℕ) (order : List ℕ) (i bits : ℕ) → p ≤ i → bits < 256 → getD order i 0 < 256 → eqb bits 255 ≡ restFree p order i
+    → eqb (bitAnd bits (getD order i 0)) 255 ≡ restFree p order (i + 1)
+unfolding restFree
 free-more p order i bits h l m e = rw (add-one i, ← e, le-ltb i p h) (and-full bits (getD order i 0) l m)
 
 -- an order whose first p entries fit is left to fit by the others
-pub order-rest : (p : ℕ) (order : List ℕ) → all p (entryFits p order) ≡ true → free p order 96 ≡ orderFits p order
-unfolding free orderFits
+pub order-rest : (p : ℕ) (order : List ℕ) → all p (entryFits p order) ≡ true → restFree p order 96 ≡ orderFits p order
+unfolding restFree orderFits
 order-rest p order fit =
     all-ext 96 (freeAt p order) (entryFits p order)
     (λ i _.

@@ -21,5 +21,5 @@ stored from (suc n) f out = set (stored from n f out) (from + n) (f n)
 abbrev pub freeAt : ℕ → List ℕ → ℕ → Bool
 freeAt p order i = cond (ltb i p) true (eqb (getD order i 0) 255)
 
-unfoldable pub free : ℕ → List ℕ → ℕ → Bool
-free p order n = all n (freeAt p order)
+unfoldable pub restFree : ℕ → List ℕ → ℕ → Bool
+restFree p order n = all n (freeAt p order)

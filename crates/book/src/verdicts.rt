@@ -5,7 +5,7 @@ ghost use Prim.Native.Nat.{_≤_};
 ghost use lib.Dec.{ltb};
 ghost use Rattle.sets.specs.Sets.{has};
 ghost use Rattle.book.specs.Form.{orderFits, groupFits, formed as formedOf};
-ghost use Rattle.book.specs.Parts.{free};
+ghost use Rattle.book.specs.Parts.{restFree};
 use sets::Set;
 
 // Kind 0 none, 1 order, 2 blocked; the order and the group as they stand in block 0.
@@ -25,7 +25,7 @@ fn row_fits(seen: Set, row: usize, p: usize) -> bool
 // The entries from p on are 255. No early exit, so that the compiler takes many at once.
 fn rest_free(order: [u8; 96], p: usize) -> bool
     requires { ⌜ p ≤ 96 ⌝ }
-    ensures { λ r. ⌜ r ≡ free p order 96 ⌝ }
+    ensures { λ r. ⌜ r ≡ restFree p order 96 ⌝ }
 {
     let mut bits: u8 = 255;
     let mut i: usize = p;

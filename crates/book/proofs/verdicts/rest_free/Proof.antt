@@ -10,13 +10,13 @@ use lib.ListN.{getD}
 use mir.Syntax.{w8}
 use mir.Val.{Fits}
 use Rattle.book.specs.FormLaws.{free-none, free-more}
-use Rattle.book.specs.Parts.{free}
+use Rattle.book.specs.Parts.{restFree}
 use borrow.Author.Needs.{needs}
 use Rattle.book.proofs.verdicts.rest_free.Statement.{statement}
 use Rattle.book.proofs.verdicts.rest_free.Tie as tie
 
 abbrev Inv-loop : tie.InvT-loop
-Inv-loop p order bits₀ i₀ bits i = (p ≤ i) × (i ≤ 96) × (bits < 256) × (eqb bits 255 ≡ free p order i)
+Inv-loop p order bits₀ i₀ bits i = (p ≤ i) × (i ≤ 96) × (bits < 256) × (eqb bits 255 ≡ restFree p order i)
 
 abbrev μ-loop : tie.MeasureT-loop
 μ-loop p order bits₀ i₀ bits i = 96 - i
