@@ -15,9 +15,11 @@ fn main() -> ExitCode {
     };
     let mut files = vec![("empty".to_owned(), light_book(0)), ("light".to_owned(), light_book(31))];
     for side in Side::ALL {
-        files.extend(SIZES.map(|(n, m)| {
-            (format!("{}-{n}-{m}", side.name()), border_books(side, n, m).concat())
-        }));
+        files.extend(
+            SIZES.map(|(n, m)| {
+                (format!("{}-{n}-{m}", side.name()), border_books(side, n, m).concat())
+            }),
+        );
     }
     for (name, books) in files {
         if let Err(fault) = fs::write(Path::new(&folder).join(&name), books) {
