@@ -11,10 +11,9 @@ fn wide(x: u8) -> u32
     x as u32
 }
 
-pub fn byte(bytes: &Block, at: usize) -> u32
-    requires { ⌜ at < 2048 ⌝ }
-{
-    wide(bytes[at])
+// The byte at a place; where the block ends before it, its last.
+pub fn byte(bytes: &Block, at: usize) -> u32 {
+    wide(bytes[crate::at_most(at, 2047)])
 }
 
 // A number of two bytes.
@@ -31,29 +30,41 @@ fn half(bytes: &Block, at: usize) -> u32
     pair(bytes[at], bytes[at + 1])
 }
 
-pub fn word(bytes: &Block, at: usize) -> u32
+fn word_in(bytes: &Block, at: usize) -> u32
     requires { ⌜ at + 4 ≤ 2048 ⌝ }
 {
     half(bytes, at) * 0x1_0000 + half(bytes, at + 2)
 }
 
-pub fn long(bytes: &Block, at: usize) -> u64
-    requires { ⌜ at + 8 ≤ 2048 ⌝ }
-{
-    word(bytes, at) as u64 * 0x1_0000_0000 + word(bytes, at + 4) as u64
+// The word at a place; where the block ends before it, the last that there is, and so for the numbers below.
+pub fn word(bytes: &Block, at: usize) -> u32 {
+    word_in(bytes, crate::at_most(at, 2044))
 }
 
-pub fn set(bytes: &Block, at: usize) -> Set
+fn long_in(bytes: &Block, at: usize) -> u64
+    requires { ⌜ at + 8 ≤ 2048 ⌝ }
+{
+    word_in(bytes, at) as u64 * 0x1_0000_0000 + word_in(bytes, at + 4) as u64
+}
+
+pub fn long(bytes: &Block, at: usize) -> u64 {
+    long_in(bytes, crate::at_most(at, 2040))
+}
+
+fn set_in(bytes: &Block, at: usize) -> Set
     requires { ⌜ at + 16 ≤ 2048 ⌝ }
 {
     Set {
-        low: long(bytes, at),
-        high: long(bytes, at + 8),
+        low: long_in(bytes, at),
+        high: long_in(bytes, at + 8),
     }
 }
 
-// The 96 bytes from `at` on.
-pub fn order(bytes: &Block, at: usize) -> [u8; 96]
+pub fn set(bytes: &Block, at: usize) -> Set {
+    set_in(bytes, crate::at_most(at, 2032))
+}
+
+fn order_in(bytes: &Block, at: usize) -> [u8; 96]
     requires { ⌜ at + 96 ≤ 2048 ⌝ }
 {
     let mut order = [0u8; 96];
@@ -63,4 +74,9 @@ pub fn order(bytes: &Block, at: usize) -> [u8; 96]
         i += 1;
     }
     order
+}
+
+// The 96 bytes from a place on.
+pub fn order(bytes: &Block, at: usize) -> [u8; 96] {
+    order_in(bytes, crate::at_most(at, 1952))
 }

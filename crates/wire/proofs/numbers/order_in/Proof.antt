@@ -3,11 +3,11 @@ use Prim.Native.Nat.{_-_, _≤_}
 use mathlib.Core.Path.{_≡_}
 use lib.ListN.{length}
 use borrow.Author.Needs.{needs}
-use Rattle.wire.proofs.numbers.order.Statement.{statement}
-use Rattle.wire.proofs.numbers.order.Tie as tie
+use Rattle.wire.proofs.numbers.order_in.Statement.{statement}
+use Rattle.wire.proofs.numbers.order_in.Tie as tie
 
-pub order-spec : {M : Type 1} → statement M
-order-spec =
+pub order-in-spec : {M : Type 1} → statement M
+order-in-spec =
     tie.close
     (tie.spec
     (λ bytes at order₀ i₀ order i. (i ≤ 96) × (length order ≡ 96))
