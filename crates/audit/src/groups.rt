@@ -10,7 +10,7 @@ use rows::{Terms, numbers};
 use sets::Set;
 
 // A group's answer: the number, with 3 the lowest row at fault, with 14 the lowest member that passes.
-#[derive(Drop)]
+#[derive(Clone, Copy)]
 pub struct GroupChecked {
     pub number: u32,
     pub row: usize,

@@ -8,7 +8,7 @@ use rows::{Terms, numbers};
 use sets::Set;
 
 // An order's answer: the number, with 3 the lowest row at fault, with 6 the lowest level that fails and its used.
-#[derive(Drop)]
+#[derive(Clone, Copy)]
 pub struct OrderChecked {
     pub number: u32,
     pub row: usize,

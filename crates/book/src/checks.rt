@@ -12,7 +12,7 @@ use crate::{bytes, fields, layout, verdicts};
 use rows::{RowRead, numbers};
 
 // The number of the first check that failed, and its block or row; or none.
-#[derive(Drop)]
+#[derive(Clone, Copy)]
 pub(crate) enum Fault {
     At(u32, usize),
     Clear,

@@ -8,7 +8,7 @@ use crate::bytes;
 use sets::Set;
 
 // What block 0 says besides the edition.
-#[derive(Drop)]
+#[derive(Clone, Copy)]
 pub(crate) struct Head {
     pub(crate) m: u8,
     pub(crate) n: u8,

@@ -1,4 +1,6 @@
 // The timing book: writing and reading, byte for byte.
+#![tactic(auto)]
+
 mod bytes;
 mod checks;
 mod fields;

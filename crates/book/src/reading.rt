@@ -11,7 +11,7 @@ use rows::numbers;
 use sets::Set;
 
 // The number; with 3 the lowest row at fault, with 10 and 11 the first block at fault; and what the book says.
-#[derive(Drop)]
+#[derive(Clone, Copy)]
 pub struct BookRead {
     pub number: u32,
     pub row: usize,

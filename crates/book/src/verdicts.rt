@@ -7,7 +7,7 @@ ghost use Rattle.book.specs.Parts.{rest_free};
 use sets::Set;
 
 // Kind 0 none, 1 order, 2 blocked; the order and the group as they stand in block 0.
-#[derive(Drop)]
+#[derive(Clone, Copy)]
 pub struct Verdict {
     pub kind: u32,
     pub order: [u8; 96],

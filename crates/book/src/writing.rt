@@ -10,7 +10,7 @@ use crate::{layout, storing, verdicts};
 use rows::numbers;
 
 // The number, and with 3 the lowest row at fault.
-#[derive(Drop)]
+#[derive(Clone, Copy)]
 pub struct BookWritten {
     pub number: u32,
     pub row: usize,

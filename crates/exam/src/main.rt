@@ -1,5 +1,7 @@
 // Examines the public functions: cases on standard input, answers on standard output, as docs/EXAM.md says.
 // A kind is a line in `shape`, a line in `answer`, and a function that calls what is examined and writes its answer.
+#![tactic(auto)]
+
 ghost use Rattle.io.specs.Counts.{IsPrefixLen};
 
 use wire::case::{Case, Shape};

@@ -1,4 +1,6 @@
 // The entry for host tools: a book in, the same table with the search's verdict out.
+#![tactic(auto)]
+
 ghost use Rattle.std.specs.Prelude.{◌≡◌, ◌++◌, ◌*◌, ◌≤◌, length, drop};
 ghost use Rattle.rows.specs.Board.{limited};
 ghost use Rattle.rows.specs.Numbers.{done};

@@ -1,4 +1,6 @@
 // The search over a lent list of task records, for callers in Rattle, C and Rust.
+#![tactic(auto)]
+
 ghost use Rattle.std.specs.Prelude.{◌≡◌, length};
 ghost use Rattle.rows.specs.Board.{limited};
 ghost use Rattle.search.specs.Answers.{found_of, written_of};
@@ -9,7 +11,7 @@ use search::Found;
 use sets::Set;
 
 #[repr(C)]
-#[derive(Drop)]
+#[derive(Clone, Copy)]
 pub struct Task {
     pub c: u32,
     pub d: u32,
@@ -17,7 +19,7 @@ pub struct Task {
 }
 
 // Tasks copied to flat words, a row each; rows is 97 where there are more than 96.
-#[derive(Drop)]
+#[derive(Clone, Copy)]
 struct Flat {
     words: [u32; 288],
     rows: usize,

@@ -1,4 +1,6 @@
 // The listing of a book, byte for byte.
+#![tactic(auto)]
+
 mod lines;
 mod text;
 

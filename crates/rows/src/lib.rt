@@ -1,4 +1,6 @@
 // What a row and a table are, on what terms rows are tested, and the numbers answered.
+#![tactic(auto)]
+
 pub mod numbers;
 mod table;
 mod terms;

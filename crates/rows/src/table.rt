@@ -4,7 +4,7 @@ ghost use Rattle.rows.specs.Table.{in_range, read_at, table, row_count, first_fa
 
 use crate::numbers;
 
-#[derive(Drop)]
+#[derive(Clone, Copy)]
 pub struct Row {
     pub c: u32,
     pub d: u32,
@@ -12,14 +12,14 @@ pub struct Row {
 }
 
 // What reading a row finds: the row, or its fault.
-#[derive(Drop)]
+#[derive(Clone, Copy)]
 pub enum RowRead {
     Fine(Row),
     Fault,
 }
 
 // What the checks of a table find: the number, and with 3 the lowest row at fault.
-#[derive(Drop)]
+#[derive(Clone, Copy)]
 pub struct Checked {
     pub number: u32,
     pub row: usize,

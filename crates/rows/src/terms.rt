@@ -3,7 +3,7 @@ ghost use Rattle.std.specs.Prelude.{◌≡◌};
 ghost use Rattle.rows.specs.Board.{limited as board_limited};
 
 // The cores, and how many of the rows above count with their carry-in.
-#[derive(Drop)]
+#[derive(Clone, Copy)]
 pub struct Terms {
     pub m: u32,
     pub carried: u32,

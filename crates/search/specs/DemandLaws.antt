@@ -78,6 +78,6 @@ module _ (n : ℕ) (dom : ℕ → Bool) where
       (λ (f : finished n dom s ≡ false).
       let N = next_is n dom test s f in
       let H = free (in_table n dom) s.placed in
-      let some : 1 ≤ count n H = count_at n H (next n dom s) N.below (in_table_free s.placed (next n dom s) N.below N.isFree) in
+      let some : 1 ≤ count n H = count_at n H (next n dom s) N.below (in_table_free s.placed (next n dom s) N.below N.is_free) in
       absurd (omega (arith, in_table_most s.placed D)))
       (either (finished n dom s))

@@ -62,7 +62,7 @@ module _ (n : ℕ) (dom : ℕ → Bool) (test : (ℕ → Bool) → ℕ → Bool)
   probe_reached s f R = go (next_is s f) (test (without (free dom s.placed) (next n dom s)) (next n dom s)) refl
     where
       go : {k : ℕ} → Next s k → (b : Bool) → test (without (free dom s.placed) k) k ≡ b → Reached (tested s.placed k b)
-      go N true e = record { placing = (N.isFree, e, R.placing); failed = λ i h. absurd (omega arith) }
+      go N true e = record { placing = (N.is_free, e, R.placing); failed = λ i h. absurd (omega arith) }
       go {k} N false e =
           record {
             placing = R.placing;
@@ -111,7 +111,7 @@ module _ (n : ℕ) (dom : ℕ → Bool) (test : (ℕ → Bool) → ℕ → Bool)
       omega (
         arith,
         sum_less n (λ i. 0) (λ i. on (free dom s.placed i && leb s.cursor i) 1) k N.below (λ i. zero-le)
-            (rw (N.isFree, le-leb s.cursor k N.from) (le_refl 1)),
+            (rw (N.is_free, le-leb s.cursor k N.from) (le_refl 1)),
         sum_mono n (λ i. 0) (λ i. 0) (λ i _. zero-le),
       )
 
@@ -127,7 +127,7 @@ module _ (n : ℕ) (dom : ℕ → Bool) (test : (ℕ → Bool) → ℕ → Bool)
   tested_less s k N true =
       let u = count n (free dom (k ∷ s.placed)) in
       let l : count n (λ i. free dom (k ∷ s.placed) i && leb 0 i) ≤ u = count_mono n _ _ (λ i h. and_left (free dom (k ∷ s.placed) i) (leb 0 i) h) in
-      omega (arith, tri_less u (count n (free dom s.placed)) (free_less s.placed k N.below N.isFree), left_pos s k N)
+      omega (arith, tri_less u (count n (free dom s.placed)) (free_less s.placed k N.below N.is_free), left_pos s k N)
   tested_less s k N false =
       omega (
         arith,
@@ -138,7 +138,7 @@ module _ (n : ℕ) (dom : ℕ → Bool) (test : (ℕ → Bool) → ℕ → Bool)
             and_in (free dom s.placed i) (leb s.cursor i) (and_left (free dom s.placed i) (leb (suc k) i) h)
             (le-leb s.cursor i (omega (arith, N.from, leb-true (suc k) i (and_right (free dom s.placed i) (leb (suc k) i) h)))))
             (le_refl 1))
-            (rw (N.isFree, le-leb s.cursor k N.from, lt-leb (suc k) k (le_refl (suc k))) (le_refl 1)),
+            (rw (N.is_free, le-leb s.cursor k N.from, lt-leb (suc k) k (le_refl (suc k))) (le_refl 1)),
       )
 
   -- each test brings the bound down

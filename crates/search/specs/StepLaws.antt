@@ -45,7 +45,7 @@ distinct_less : (n : ℕ) (test : (ℕ → Bool) → ℕ → Bool) (p : Progress
     → length p.placed < n
 distinct_less n test p D f =
     let N = next_is n (rows_below n) test p f in
-    let some = count_at n (free (rows_below n) p.placed) (next n (rows_below n) p) N.below N.isFree in
+    let some = count_at n (free (rows_below n) p.placed) (next n (rows_below n) p) N.below N.is_free in
     omega (arith, tally (rows_below n) n (λ i h. ltb-true i n h) p.placed D, rows_count n)
 
 tested_distinct : (dom : ℕ → Bool) (p : List ℕ) (k : ℕ) → free dom p k ≡ true → Distinct dom p → (b : Bool) → Distinct dom (tested p k b).placed
@@ -56,7 +56,7 @@ probe_distinct : (n : ℕ) (dom : ℕ → Bool) (test : (ℕ → Bool) → ℕ �
     → Distinct dom (probe n dom test p).placed
 unfolding probe
 probe_distinct n dom test p f D =
-    tested_distinct dom p.placed (next n dom p) (next_is n dom test p f).isFree D
+    tested_distinct dom p.placed (next n dom p) (next_is n dom test p f).is_free D
     (test (without (free dom p.placed) (next n dom p)) (next n dom p))
 
 run_distinct : (n : ℕ) (dom : ℕ → Bool) (test : (ℕ → Bool) → ℕ → Bool) (q : ℕ) (p : Progress) → Distinct dom p.placed
@@ -149,7 +149,7 @@ module _ {b : Board} {quota : ℕ} {s : State} {st : Stand} {tests k : ℕ} (S :
   pub stands_left : b.n ≤ 96 → k < b.n → has st.left k ≡ true
   stands_left most h =
       let p = S.progress in
-      let free-row = (next_is b.n (rows_below b.n) (passes b) p (next_unfinished b.n p k S.row_is h)).isFree in
+      let free-row = (next_is b.n (rows_below b.n) (passes b) p (next_unfinished b.n p k S.row_is h)).is_free in
       rw S.stand_is (has_unplaced b.n p.placed k most ∙ rw (← S.row_is) at free-row)
 
   -- one probe takes it one test on

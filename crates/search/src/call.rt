@@ -10,7 +10,7 @@ use sets::Set;
 
 // The search's answer: the number, with 3 the lowest row at fault, with 4 the blocked group, and the tests made.
 #[repr(C)]
-#[derive(Drop)]
+#[derive(Clone, Copy)]
 pub struct Found {
     pub number: u32,
     pub row: usize,

@@ -11,7 +11,7 @@ use sets::Set;
 
 // Where a search ended: entries n - placed to n - 1 of the order are the rows placed, the highest level first, all others
 // are 255; the rows left; and the tests made.
-#[derive(Drop)]
+#[derive(Clone, Copy)]
 pub struct Ended {
     pub order: [u8; 96],
     pub placed: usize,

@@ -1,4 +1,6 @@
 // Audsley's search, in one call and in quota steps.
+#![tactic(auto)]
+
 mod call;
 mod ended;
 mod scan;

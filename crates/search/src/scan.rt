@@ -13,7 +13,7 @@ use rows::Terms;
 use sets::Set;
 
 // The first row that passed, n where none did, and the tests made.
-#[derive(Drop)]
+#[derive(Clone, Copy)]
 pub(crate) struct Scanned {
     pub row: usize,
     pub tests: u64,

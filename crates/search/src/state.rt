@@ -7,7 +7,7 @@ ghost use Rattle.search.specs.State.{placed_rows, rows_placed, fresh_state, plac
 use sets::Set;
 
 // Entries n - placed to n - 1 of the order are the rows placed, the highest level first; all others are 255.
-#[derive(Drop)]
+#[derive(Clone, Copy)]
 pub struct State {
     pub order: [u8; 96],
     pub placed: usize,
@@ -15,7 +15,7 @@ pub struct State {
 }
 
 // Whether a state is sound, and the rows that it leaves unplaced.
-#[derive(Drop)]
+#[derive(Clone, Copy)]
 pub struct Left {
     pub sound: bool,
     pub rows: Set,

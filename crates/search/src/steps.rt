@@ -15,7 +15,7 @@ use rows::{Terms, numbers};
 use sets::Set;
 
 // A step's answer: the number, with 3 the lowest row at fault, with 4 the blocked group, the tests made in this call, and the new state.
-#[derive(Drop)]
+#[derive(Clone, Copy)]
 pub struct Stepped {
     pub number: u32,
     pub row: usize,
@@ -25,7 +25,7 @@ pub struct Stepped {
 }
 
 // A state and the rows that it leaves unplaced.
-#[derive(Drop)]
+#[derive(Clone, Copy)]
 struct Stand {
     state: State,
     left: Set,

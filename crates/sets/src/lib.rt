@@ -1,10 +1,12 @@
 // A set of rows is a mask of two words, row 0 the lowest bit of the first.
+#![tactic(auto)]
+
 ghost use Rattle.std.specs.Prelude.{◌≡◌, ◌-◌};
 ghost use Rattle.sets.specs.Sums.{first};
 ghost use Rattle.sets.specs.Sets.{has, with_row, without_row, size, within, below};
 
 #[repr(C)]
-#[derive(Drop)]
+#[derive(Clone, Copy)]
 pub struct Set {
     pub low: u64,
     pub high: u64,

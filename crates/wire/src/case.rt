@@ -7,7 +7,7 @@ use crate::{Bytes, Words, numbers};
 
 // Which parts a case has, in this order: a table; so many bytes of numbers; a list of at most so many bytes, none with 0;
 // so many bytes of numbers after it; output words.
-#[derive(Drop)]
+#[derive(Clone, Copy)]
 pub struct Shape {
     pub table: bool,
     pub numbers: usize,
@@ -16,14 +16,14 @@ pub struct Shape {
     pub room: bool,
 }
 
-#[derive(Drop)]
+#[derive(Clone, Copy)]
 pub struct WordList {
     pub n: usize,
     pub words: Words,
     pub whole: bool,
 }
 
-#[derive(Drop)]
+#[derive(Clone, Copy)]
 pub struct ByteList {
     pub n: usize,
     pub bytes: Bytes,
@@ -31,7 +31,7 @@ pub struct ByteList {
 }
 
 // The numbers after the list stand behind those before it.
-#[derive(Drop)]
+#[derive(Clone, Copy)]
 pub struct Case {
     pub table: WordList,
     pub numbers: Block,
@@ -40,7 +40,7 @@ pub struct Case {
     pub whole: bool,
 }
 
-#[derive(Drop)]
+#[derive(Clone, Copy)]
 struct Listed {
     n: usize,
     whole: bool,

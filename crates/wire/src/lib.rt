@@ -1,4 +1,6 @@
 // How a case is read and an answer written: docs/EXAM.md says which bytes they are.
+#![tactic(auto)]
+
 ghost use Rattle.std.specs.Prelude.{◌≤◌};
 ghost use Rattle.io.specs.Counts.{IsPrefixLen};
 

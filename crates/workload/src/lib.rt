@@ -1,4 +1,6 @@
 // How much a row works in a length, and what it takes from a row below it.
+#![tactic(auto)]
+
 ghost use Rattle.std.specs.Prelude.{◌≡◌, ◌-◌, ◌/◌, ◌^◌, ◌≤◌, min};
 ghost use Rattle.workload.specs.Workload.{work as workload_work, part, cap as workload_cap, plain as workload_plain, carry as workload_carry, extra as workload_extra};
 

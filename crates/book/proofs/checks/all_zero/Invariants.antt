@@ -1,0 +1,21 @@
+-- The loop's invariant: the spare bytes of block 0 and of the first k row blocks are zero.
+-- A block where one is not ends the loop, and the definition fails there. Assumes nothing.
+use Prim.Native.Nat.{◌+◌, ◌-◌, ◌/◌, ◌≤◌}
+use mathlib.Core.Path.{◌≡◌, sym, ◌∙◌}
+use mathlib.Core.Bool.{true}
+use native.Mathlib.Omega.{arith}
+use borrow.Author.Tests.{not-true, not-false}
+use lib.ListN.{length}
+use Rattle.book.specs.Bytes.{all}
+use Rattle.book.specs.ByteLaws.{all_fails, all_more}
+use Rattle.book.specs.Layout.{edition_one, blocks}
+use Rattle.book.specs.Spare.{zero_block, zeros}
+use Rattle.book.specs.SpareLaws.{head_blank}
+use borrow.Author.Rules.{rules}
+use Rattle.book.proofs.checks.all_zero.Given as goal
+
+abbrev pub invariant-loop-k : goal.invariant-loop-k
+invariant-loop-k l = (1 + l.k ≤ blocks edition_one l.n) × (all (l.k + 1) (zero_block edition_one l.n l.book) ≡ true)
+
+abbrev pub decreases-loop-k : goal.decreases-loop-k
+decreases-loop-k l = blocks edition_one l.n - l.k

@@ -1,0 +1,16 @@
+-- The loop's invariant: the bits of t bytes together are none exactly where all of the bytes are zero.
+-- A turn joins the bits of the next byte. Assumes nothing.
+use Prim.Native.Nat.{◌-◌, ◌≤◌}
+use mathlib.Core.Path.{◌≡◌, ap, ◌∙◌}
+use native.Mathlib.Omega.{arith}
+use lib.Dec.{eqb}
+use Rattle.book.specs.Spare.{blank}
+use Rattle.book.specs.SpareLaws.{blank_none, blank_more}
+use borrow.Author.Rules.{rules}
+use Rattle.book.proofs.checks.blank.Given as goal
+
+abbrev pub invariant-loop-t : goal.invariant-loop-t
+invariant-loop-t l = (l.t ≤ l.count) × (eqb l.bits 0 ≡ blank l.book l.from l.t)
+
+abbrev pub decreases-loop-t : goal.decreases-loop-t
+decreases-loop-t l = l.count - l.t

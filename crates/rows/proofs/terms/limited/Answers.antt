@@ -1,0 +1,10 @@
+-- Without cores nothing is carried in, by the difference as by the branch. Assumes nothing.
+use mathlib.Core.Path.{refl}
+use borrow.Author.Rules.{rules}
+use Rattle.rows.proofs.terms.limited.Goals as goal
+
+pub returns-then-m-eq0 : goal.returns-then-m-eq0
+returns-then-m-eq0 c = rw c.if-m-eq0.true refl
+
+pub returns : goal.returns
+returns c = refl

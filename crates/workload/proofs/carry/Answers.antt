@@ -1,0 +1,18 @@
+-- The lesser of the work in the definition's length and the cap, whether that length fits 32 bits or not. Assumes nothing.
+use mathlib.Core.Path.{refl, ◌∙◌}
+use Rattle.workload.specs.Workload.{carry}
+use Rattle.workload.specs.WorkloadLaws.{cap_fits}
+use borrow.Author.Rules.{rules}
+use Rattle.workload.proofs.carry.Goals as goal
+
+pub returns-then-length-le4294967295 : goal.returns-then-length-le4294967295
+unfolding carry
+returns-then-length-le4294967295 c = c.least.ensures
+    ∙ rw (c.cap.ensures, c.work.ensures, c.slack.ensures) refl
+
+pub work_up_to-requires : goal.work_up_to-requires
+work_up_to-requires c = rw c.cap-2.ensures (cap_fits c.args.k (search rules))
+
+pub returns : goal.returns
+unfolding carry
+returns c = c.work_up_to.ensures ∙ rw (c.cap-2.ensures, c.slack.ensures) refl
