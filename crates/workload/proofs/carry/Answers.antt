@@ -1,8 +1,8 @@
 -- The lesser of the work in the definition's length and the cap, whether that length fits 32 bits or not. Assumes nothing.
-use mathlib.Core.Path.{refl, ◌∙◌}
+use Rattle.std.specs.Prelude.{refl}
+use Rattle.std.proofs.Common.{◌∙◌, rules}
 use Rattle.workload.specs.Workload.{carry}
 use Rattle.workload.specs.WorkloadLaws.{cap_fits}
-use borrow.Author.Rules.{rules}
 use Rattle.workload.proofs.carry.Goals as goal
 
 pub returns-then-length-le4294967295 : goal.returns-then-length-le4294967295

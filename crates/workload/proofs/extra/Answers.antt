@@ -1,8 +1,6 @@
 -- Carry-in less plain interference, as the definition has it. The difference is never negative. Assumes nothing.
-use Prim.Native.Nat.{◌-◌}
-use mathlib.Core.Path.{ap₂}
-use native.Mathlib.Omega.{arith}
-use borrow.Author.Rules.{rules}
+use Rattle.std.specs.Prelude.{◌-◌}
+use Rattle.std.proofs.Common.{ap₂, arith}
 use Rattle.workload.specs.Workload.{extra}
 use Rattle.workload.specs.WorkloadLaws.{plain_carry}
 use Rattle.workload.proofs.extra.Goals as goal

@@ -1,10 +1,7 @@
 -- The whole periods are no longer than the length, so what is left of it is a difference, and the lesser of that and C is the definition's.
 -- Assumes nothing.
-use Prim.Native.Nat.{◌*◌, ◌≤◌}
-use mathlib.Core.Path.{refl, ◌∙◌}
-use native.Mathlib.Omega.{arith}
-use native.Mathlib.Nat.{div-mul-le_self}
-use borrow.Author.Rules.{rules}
+use Rattle.std.specs.Prelude.{◌*◌, ◌≤◌, refl}
+use Rattle.std.proofs.Common.{◌∙◌, arith, div-mul-le_self}
 use Rattle.workload.proofs.last_part.Goals as goal
 use Rattle.workload.proofs.last_part.Goals.{Start}
 

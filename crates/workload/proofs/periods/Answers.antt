@@ -1,7 +1,6 @@
 -- The quotient, which is 0 where the divisor is 0. Assumes nothing.
-use mathlib.Core.Path.{refl}
-use native.Mathlib.Nat.{div-zero}
-use borrow.Author.Rules.{rules}
+use Rattle.std.specs.Prelude.{refl}
+use Rattle.std.proofs.Math.Nat.{div-zero}
 use Rattle.workload.proofs.periods.Goals as goal
 
 pub returns-then-t-eq0 : goal.returns-then-t-eq0

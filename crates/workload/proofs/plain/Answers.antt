@@ -1,7 +1,7 @@
 -- The lesser of the work in the definition's length and the cap. Assumes nothing.
-use mathlib.Core.Path.{refl, ◌∙◌}
+use Rattle.std.specs.Prelude.{refl}
+use Rattle.std.proofs.Common.{◌∙◌}
 use Rattle.workload.specs.Workload.{plain}
-use borrow.Author.Rules.{rules}
 use Rattle.workload.proofs.plain.Goals as goal
 
 pub returns : goal.returns

@@ -1,48 +1,51 @@
 -- The checks are made in the order of the definition's list, and the first that fails gives the answer.
 -- Each return is the law of the check that led there. Assumes nothing.
-use Prim.Native.Nat.{◌/◌, ◌%◌}
-use mathlib.Core.Path.{◌≡◌, sym}
-use mathlib.Core.Bool.{true}
-use mathlib.Core.Logic.{⊎_elim, inl, inr}
-use lib.Dec.{eqb, leb}
-use lib.ListN.{length}
-use borrow.Author.Rules.{rules}
-use borrow.Author.Tests.{ltb-true, ltb-false, eq-eqb, ne_eqb, le-leb, lt-leb}
+use Rattle.std.specs.Prelude.{ℕ, ◌/◌, ◌%◌, ◌≡◌, ◌≤◌, true, eqb, leb, List, length}
+use Rattle.std.proofs.Common.{sym, inl, inr, eq-eqb, ne_eqb, le-leb}
+use Rattle.std.proofs.lemmas.Bool.{lt-leb}
 use Rattle.sets.specs.BoolLaws.{and_in, and_fails}
 use Rattle.rows.specs.TableLaws.{well_sized, some_cores, fault_length, fault_cores, fault_row, fault_none}
 use Rattle.rows.proofs.table.check_table.Goals as goal
-use Rattle.rows.proofs.table.check_table.Goals.{Else-m-gt32, Else-n-gt96}
+use Rattle.rows.proofs.table.check_table.Goals.{then-words-ne0-via-then-words-ne0, then-words-ne0-via-else-words-ne0+then-n-gt96, then-m-lt1-via-then-m-lt1, then-m-lt1-via-else-m-lt1+then-m-gt32}
 
 -- where check 1 has passed
-sized : (c : Else-n-gt96) → well_sized c.args.words.now ≡ true
-sized c =
-    let words = c.args.words.now in
-    and_in (eqb (length words % 3) 0) (leb (length words / 3) 96) (eq-eqb _ _ c.if-words-ne0.false)
-    (le-leb _ _ (ltb-false 96 (length words / 3) c.if-n-gt96.false-raw))
+sized : (words : List ℕ) → length words % 3 ≡ 0 → length words / 3 ≤ 96 → well_sized words ≡ true
+sized words e l = and_in (eqb (length words % 3) 0) (leb (length words / 3) 96) (eq-eqb _ _ e) (le-leb _ _ l)
 
--- where check 2 has passed too
-cored : (c : Else-m-gt32) → some_cores c.args.m ≡ true
-cored c =
-    let m = c.args.m in
-    and_in (leb 1 m) (leb m 32) (le-leb _ _ c.if-m-lt1.false) (le-leb _ _ (ltb-false 32 m c.if-m-gt32.false-raw))
+-- where check 2 has passed
+cored : (m : ℕ) → 1 ≤ m → m ≤ 32 → some_cores m ≡ true
+cored m low high = and_in (leb 1 m) (leb m 32) (le-leb _ _ low) (le-leb _ _ high)
 
 pub returns-then-words-ne0 : goal.returns-then-words-ne0
-returns-then-words-ne0 c = let words = c.args.words.now in
+returns-then-words-ne0 c =
+    let words = c.args.words.now in
     sym
     (fault_length words _
     (and_fails (eqb (length words % 3) 0) (leb (length words / 3) 96)
-    (⊎_elim (λ w. inl (ne_eqb _ _ w.taken)) (λ w. inr (lt-leb _ _ (ltb-true 96 (length words / 3) w.1.taken))) c.then-words-ne0.branch)))
+    (elim c.then-words-ne0.branch [
+      | then-words-ne0-via-then-words-ne0 w ↦ inl (ne_eqb _ _ w.if-words-ne0.true)
+      | then-words-ne0-via-else-words-ne0+then-n-gt96 w ↦ inr (lt-leb _ _ w.if-n-gt96.true)
+    ])))
 
 pub returns-then-m-lt1 : goal.returns-then-m-lt1
-returns-then-m-lt1 c = let m = c.args.m in
+returns-then-m-lt1 c =
+    let m = c.args.m in
     sym
-    (fault_cores _ m (sized c.before)
+    (fault_cores _ m (sized _ c.if-words-ne0.false c.if-n-gt96.false)
     (and_fails (leb 1 m) (leb m 32)
-    (⊎_elim (λ w. inl (lt-leb _ _ w.taken)) (λ w. inr (lt-leb _ _ (ltb-true 32 m w.1.taken))) c.then-m-lt1.branch)))
+    (elim c.then-m-lt1.branch [
+      | then-m-lt1-via-then-m-lt1 w ↦ inl (lt-leb _ _ w.if-m-lt1.true)
+      | then-m-lt1-via-else-m-lt1+then-m-gt32 w ↦ inr (lt-leb _ _ w.if-m-gt32.true)
+    ])))
 
 pub returns-then-row-n : goal.returns-then-row-n
-returns-then-row-n c = let lowest = c.first_fault-row.ensures in
-    rw lowest (sym (fault_row _ _ (sized c.before.before.before.before) (cored c.before.before) (rw lowest c.before.before c.if-row-n.true)))
+returns-then-row-n c =
+    let lowest = c.first_fault-row.ensures in
+    rw lowest
+    (sym (fault_row _ _ (sized _ c.if-words-ne0.false c.if-n-gt96.false) (cored _ c.if-m-lt1.false c.if-m-gt32.false) (rw lowest at c.if-row-n.true)))
 
 pub returns : goal.returns
-returns c = sym (fault_none _ _ (sized c.before.before.before.before) (cored c.before.before) (rw c.first_fault-row.ensures c.before.before c.if-row-n.false))
+returns c =
+    sym
+    (fault_none _ _ (sized _ c.if-words-ne0.false c.if-n-gt96.false) (cored _ c.if-m-lt1.false c.if-m-gt32.false)
+    (rw c.first_fault-row.ensures at c.if-row-n.false))

@@ -1,11 +1,9 @@
 -- The goals that are not found.
-use Prim.Native.Nat.{◌-◌}
-use mathlib.Core.Path.{◌≡◌, refl, sym, ◌∙◌}
-use native.Mathlib.Nat.{sub-zero}
-use borrow.Author.Rules.{rules}
-use Rattle.sets.specs.Sums.{first}
+use Rattle.std.specs.Prelude.{refl}
+use Rattle.std.proofs.Common.{sym, ◌∙◌}
+use Rattle.std.proofs.Math.Nat.{sub-zero}
 use Rattle.sets.specs.SumLaws.{first_taken, first_next, first_end}
-use Rattle.rows.specs.Table.{faulty, first_fault}
+use Rattle.rows.specs.Table.{first_fault}
 use Rattle.rows.specs.TableLaws.{read_fault, read_fine}
 use Rattle.rows.proofs.table.first_fault.Goals as goal
 

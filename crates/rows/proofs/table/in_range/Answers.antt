@@ -1,7 +1,8 @@
 -- `in_range` makes the four comparisons of `inRange` in their order, and leaves at the first that fails.
 -- Each return rewrites the definition with the comparisons that led there. Assumes nothing.
-use mathlib.Core.Path.{refl}
-use borrow.Author.Tests.{le-leb, lt-leb}
+use Rattle.std.specs.Prelude.{refl}
+use Rattle.std.proofs.Common.{le-leb}
+use Rattle.std.proofs.lemmas.Bool.{lt-leb}
 use Rattle.rows.specs.Table.{in_range}
 use Rattle.rows.proofs.table.in_range.Goals as goal
 

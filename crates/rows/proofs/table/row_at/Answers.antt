@@ -1,6 +1,5 @@
 -- The row that was read, or the definition's stand-in for a fault. Assumes nothing.
-use mathlib.Core.Path.{sym, ap, ◌∙◌}
-use borrow.Author.Rules.{rules}
+use Rattle.std.proofs.Common.{sym, ap, ◌∙◌}
 use Rattle.rows.specs.Table.{row_of}
 use Rattle.rows.proofs.table.row_at.Goals as goal
 

@@ -1,5 +1,5 @@
 -- The smaller of the whole rows and 96, as the definition has it. Assumes nothing.
-use native.Mathlib.Omega.{arith}
+use Rattle.std.proofs.Common.{arith}
 use Rattle.rows.specs.Table.{row_count}
 use Rattle.rows.proofs.table.row_count.Goals as goal
 

@@ -1,6 +1,5 @@
 -- Without cores nothing is carried in, by the difference as by the branch. Assumes nothing.
-use mathlib.Core.Path.{refl}
-use borrow.Author.Rules.{rules}
+use Rattle.std.specs.Prelude.{refl}
 use Rattle.rows.proofs.terms.limited.Goals as goal
 
 pub returns-then-m-eq0 : goal.returns-then-m-eq0

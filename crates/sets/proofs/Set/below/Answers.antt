@@ -1,12 +1,8 @@
 -- `Set::below` meets its contract. The words make the number of n ones, whose bits are the rows below n.
 -- From n = 128 on both words are full, as they are for 128, and a set has no other rows. Assumes nothing.
-use Prim.Native.Nat.{ℕ, ◌-◌, ◌^◌, ◌<◌}
-use mathlib.Core.Path.{◌≡◌, refl, sym, ap, ◌∙◌}
-use native.Mathlib.Omega.{arith}
-use native.Mathlib.Nat.{lt_of_lt_of_le, zero-add}
-use lib.Pow.{pow-lt, pow_pos}
-use borrow.Author.Tests.{lt-ltb}
-use borrow.Author.Rules.{rules}
+use Rattle.std.specs.Prelude.{ℕ, ◌-◌, ◌^◌, ◌<◌, ◌≡◌, refl}
+use Rattle.std.proofs.Common.{sym, ap, ◌∙◌, arith, lt_of_lt_of_le, zero-add, pow_pos, lt-ltb}
+use Rattle.std.proofs.Math.Pow.{pow-lt}
 use Rattle.sets.specs.Sets.{word, bit, below}
 use Rattle.sets.specs.SetLaws.{FitsWords, bit_ones, eq_set_of, set_ext, shl_one, pow_high}
 use Rattle.sets.specs.declared.Set.{Set}

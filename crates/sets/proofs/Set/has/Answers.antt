@@ -1,7 +1,6 @@
 -- `Set::has` meets its contract. A row below 64 is a bit of the low word and one from 64 to 127 a bit of the high word, and both are bits of the number that the words make.
 -- That number is below 2 ^ 128, so the set has no row from 128 on. Assumes nothing.
-use mathlib.Core.Path.{sym}
-use borrow.Author.Rules.{rules}
+use Rattle.std.proofs.Common.{sym, rules}
 use Rattle.sets.specs.Sets.{bit}
 use Rattle.sets.specs.SetLaws.{has_low, has_high, has_above}
 use Rattle.sets.proofs.Set.has.Goals as goal

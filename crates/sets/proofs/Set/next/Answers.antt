@@ -1,11 +1,9 @@
 -- `Set::next` meets its contract. The zeros of a word from a place on, up to its next bit, lead to the first row there, in the low word and then in the high one.
 -- A word that has none left has 64 zeros, and these lead past its last row. Assumes nothing.
-use Prim.Native.Nat.{ℕ, ◌+◌, ◌-◌, ◌/◌, ◌^◌, ◌≤◌, ◌<◌, min}
-use mathlib.Core.Path.{◌≡◌, sym, ◌∙◌}
-use mathlib.Core.Bool.{false}
-use native.Mathlib.Omega.{arith}
-use lib.Count.{count_trailing_zeros, trailing_le}
-use borrow.Author.Rules.{rules}
+use Rattle.std.specs.Prelude.{ℕ, ◌+◌, ◌-◌, ◌/◌, ◌^◌, ◌≤◌, ◌<◌, min, ◌≡◌, false}
+use Rattle.std.proofs.Common.{sym, ◌∙◌, arith, rules}
+use Rattle.std.specs.Int.Count.{count_trailing_zeros}
+use lib.Count.{trailing_le}
 use Rattle.sets.specs.Sums.{first}
 use Rattle.sets.specs.SumLaws.{first_is, first_end}
 use Rattle.sets.specs.Sets.{bit, has}

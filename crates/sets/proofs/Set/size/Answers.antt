@@ -1,8 +1,7 @@
 -- `Set::size` meets its contract. The ones of the two words are those of the number that the words make, and its ones are its bits, the set's rows.
 -- A word has at most 64 of them, so the sum fits. Assumes nothing.
-use native.Mathlib.Omega.{arith}
+use Rattle.std.proofs.Common.{arith, rules}
 use lib.Count.{ones-le}
-use borrow.Author.Rules.{rules}
 use Rattle.sets.specs.SetLaws.{size_ones}
 use Rattle.sets.proofs.Set.size.Goals as goal
 

@@ -1,14 +1,11 @@
 -- `Set::with` meets its contract. The words joined with those of 2 ^ row make the set's number joined with 2 ^ row, whose bits are the set's rows and the row.
 -- A row from 128 on is none that a set can have, and the set stays as it is. Assumes nothing.
-use Prim.Native.Nat.{ℕ, ◌+◌, ◌-◌, ◌*◌, ◌^◌, ◌<◌}
-use mathlib.Core.Path.{◌≡◌, sym, ap, ◌∙◌}
-use mathlib.Core.Bool.{Bool, ◌||◌, or-false}
-use native.Mathlib.Omega.{arith}
-use native.Mathlib.Nat.{zero-add, ne_of_lt, lt_of_lt_of_le}
-use lib.Bits.{bit_or, or_lt, or_block, or_zero_r}
-use lib.Pow.{pow_pos, pow-lt}
-use borrow.Author.Tests.{ne_eqb}
-use borrow.Author.Rules.{rules}
+use Rattle.std.specs.Prelude.{ℕ, ◌+◌, ◌-◌, ◌*◌, ◌^◌, ◌<◌, ◌≡◌, Bool, ◌||◌}
+use Rattle.std.proofs.Common.{sym, ap, ◌∙◌, arith, zero-add, ne_of_lt, lt_of_lt_of_le, pow_pos, ne_eqb, rules}
+use Rattle.std.proofs.Math.Bool.{or-false}
+use Rattle.std.proofs.Math.Pow.{pow-lt}
+use Rattle.std.specs.Int.Bits.{bit_or}
+use lib.Bits.{or_lt, or_block, or_zero_r}
 use Rattle.sets.specs.Sets.{word, bit, has, with_row}
 use Rattle.sets.specs.SetLaws.{FitsWords, bit_or_lem, bit_pow, eq_set_of, shl_one, pow_high}
 use Rattle.sets.specs.declared.Set.{Set}

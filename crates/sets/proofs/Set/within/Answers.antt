@@ -1,15 +1,10 @@
 -- `Set::within` meets its contract. For n below 64 the number that the words make is below 2 ^ n where the high word is 0 and the low word is below 2 ^ n.
 -- From 64 on it is where the high word is below 2 ^ (n - 64), and from 128 on always. Assumes nothing.
-use Prim.Native.Nat.{ℕ, ◌+◌, ◌-◌, ◌*◌, ◌^◌, ◌≤◌, ◌<◌}
-use mathlib.Core.Path.{◌≡◌, refl, sym, ap, ◌∙◌}
-use mathlib.Core.Logic.{◌↔◌}
-use native.Mathlib.Omega.{arith}
-use native.Mathlib.Nat.{zero-add, div-lt_iff_lt-mul, pos_of_ne-zero, lt_of_lt_of_le}
-use lib.Dec.{ltb}
-use lib.Arith.{digits_div}
-use lib.Pow.{pow_pos, pow_mono, pow-lt}
-use borrow.Author.Tests.{ltb-true, lt-ltb, le-ltb, ne_eqb}
-use borrow.Author.Rules.{rules}
+use Rattle.std.specs.Prelude.{ℕ, ◌+◌, ◌-◌, ◌*◌, ◌^◌, ◌≤◌, ◌<◌, ◌≡◌, refl, ◌↔◌, ltb}
+use Rattle.std.proofs.Common.{sym, ap, ◌∙◌, arith, zero-add, div-lt_iff_lt-mul, lt_of_lt_of_le, pow_pos, pow_mono, ltb-true, lt-ltb, le-ltb, ne_eqb, rules}
+use Rattle.std.proofs.Math.Arith.{digits_div}
+use Rattle.std.proofs.Math.Pow.{pow-lt}
+use native.Mathlib.Nat.{pos_of_ne-zero}
 use Rattle.sets.specs.BoolLaws.{same}
 use Rattle.sets.specs.Sets.{word}
 use Rattle.sets.specs.SetLaws.{word_lt, shl_one, pow_high}

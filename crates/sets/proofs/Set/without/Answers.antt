@@ -1,12 +1,9 @@
 -- `Set::without` meets its contract. The bit of a row that the set has is taken off its word, and so off the number that the words make, and every other bit stays.
 -- A set that does not have the row stays as it is. Assumes nothing.
-use Prim.Native.Nat.{ℕ, ◌+◌, ◌-◌, ◌*◌, ◌^◌, ◌≤◌, ◌<◌, zero-le}
-use mathlib.Core.Path.{◌≡◌, sym, ap, ◌∙◌}
-use mathlib.Core.Bool.{true, false}
-use native.Mathlib.Omega.{arith}
-use native.Mathlib.Nat.{zero-add, add-zero, sub-zero, sub-le, lt_of_le_of_lt}
-use borrow.Author.Tests.{not-true, not-false}
-use borrow.Author.Rules.{rules}
+use Rattle.std.specs.Prelude.{ℕ, ◌+◌, ◌-◌, ◌*◌, ◌^◌, ◌≤◌, ◌<◌, ◌≡◌, true, false}
+use Rattle.std.proofs.Common.{zero-le, sym, ap, ◌∙◌, arith, zero-add, add-zero, lt_of_le_of_lt, rules}
+use Rattle.std.proofs.Math.Nat.{sub-zero}
+use native.Mathlib.Nat.{sub-le}
 use Rattle.sets.specs.Sets.{word, bit, has, without, without_row}
 use Rattle.sets.specs.SetLaws.{FitsWords, bit_le, bit_sub, has_low, has_high, has_lt, eq_set_of, shl_one, pow_high, without_absent}
 use Rattle.sets.specs.declared.Set.{Set}
@@ -24,7 +21,7 @@ parted s k a b f h p q e =
     (λ i l. ap (λ (w : ℕ). bit w i) less ∙ bit_sub k (word s) i h)
 
 kept : (c : Else-not-has) → has c.args.self c.args.row ≡ true
-kept c = sym c.has.ensures ∙ not-false _ c.if-not-has.false-raw
+kept c = sym c.has.ensures ∙ c.if-not-has.false
 
 pub overflow_sub-result : goal.overflow_sub-result
 overflow_sub-result c = let s = c.args.self in
@@ -44,7 +41,7 @@ overflow_sub-result-else-row-lt64-2 c = let s = c.args.self in
 pub returns-then-not-has : goal.returns-then-not-has
 returns-then-not-has c = let s = c.args.self in
     let k = c.args.row in
-    let absent : has s k ≡ false = sym c.has.ensures ∙ not-true _ c.if-not-has.true-raw in
+    let absent : has s k ≡ false = sym c.has.ensures ∙ c.if-not-has.true in
     eq_set_of s _ (search rules) (λ i l. sym (without_absent (has s) k i absent))
 
 pub returns-then-row-lt64 : goal.returns-then-row-lt64
