@@ -1,8 +1,5 @@
 -- The two tests of the definition in its order. With no member the answer is no, else it is what `within` says. Assumes nothing.
-use mathlib.Core.Path.{refl}
-use native.Mathlib.Omega.{arith}
-use borrow.Author.Rules.{rules}
-use borrow.Author.Tests.{lt-ltb, le-ltb}
+use Rattle.std.proofs.Common.{refl, arith, lt-ltb, le-ltb}
 use Rattle.sets.specs.Sets.{size}
 use Rattle.audit.specs.Audit.{is_group}
 use Rattle.audit.proofs.groups.is_group.Goals as goal

@@ -1,11 +1,7 @@
 -- The invariant: the first member from the row at hand on that passes is the first of all.
 -- A member that passes ends the scan there, any other row takes it one row on. Assumes nothing.
-use Prim.Native.Nat.{◌-◌}
-use mathlib.Core.Path.{◌≡◌, refl, sym, ◌∙◌}
-use native.Mathlib.Nat.{sub-zero}
-use borrow.Author.Rules.{rules}
+use Rattle.std.specs.Prelude.{◌≡◌, ◌-◌}
 use Rattle.sets.specs.Sums.{first}
-use Rattle.sets.specs.SumLaws.{first_taken, first_next, first_end}
 use Rattle.sets.specs.Sets.{has}
 use Rattle.rows.specs.Board.{board_of}
 use Rattle.test.specs.Test.{passes}
