@@ -11,7 +11,7 @@ use Rattle.sets.specs.BoolLaws.{either, not_both}
 use Rattle.rows.specs.Numbers.{done, blocked, malformed, order_fails, member_passes}
 use Rattle.sets.specs.Sets.{has, ◌⊆◌, size}
 use Rattle.rows.specs.Table.{row_count, table, table_fault}
-use Rattle.rows.specs.TableLaws.{row_count_most}
+use Rattle.rows.proofs.TableLaws.{row_count_most}
 use Rattle.sets.specs.declared.Set.{Set}
 use Rattle.search.specs.Search.{rows_below, free}
 use Rattle.search.specs.Demand.{Order, Passing, Blocked, Truth}
@@ -25,7 +25,7 @@ use Rattle.sets.specs.SumLaws.{count_zero_iff}
 use Rattle.sets.specs.SetLaws.{size_zero_iff}
 use Rattle.rows.specs.Board.{Board, board_of}
 use Rattle.rows.specs.declared.terms.Terms.{Terms}
-use Rattle.test.specs.TestLaws.{passes_antitone}
+use Rattle.test.proofs.TestLaws.{passes_antitone}
 use Rattle.test.specs.Test.{passes}
 use Rattle.audit.specs.OrderLaws.{is_order_iff, LowestFails, lowest_none_iff, lowest_some, lowest_exceeds, order_malformed, order_levels, levels_done, levels_fails}
 use Rattle.audit.specs.GroupLaws.{Group, is_group_iff, LowestPasses, lowest_passes, none_passes_iff, group_malformed, group_member, group_done}

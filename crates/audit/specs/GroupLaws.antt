@@ -11,7 +11,7 @@ use Rattle.sets.specs.SumLaws.{first_is}
 use Rattle.sets.specs.Sets.{has, without, size, within}
 use Rattle.sets.specs.SetLaws.{within_iff}
 use Rattle.rows.specs.Table.{row_count, table_fault}
-use Rattle.rows.specs.TableLaws.{judge_refused, judge_passed}
+use Rattle.rows.proofs.TableLaws.{judge_refused, judge_passed}
 use Rattle.sets.specs.declared.Set.{Set}
 use Rattle.rows.specs.Board.{board_of}
 use Rattle.rows.specs.declared.terms.Terms.{Terms}

@@ -16,11 +16,11 @@ use Rattle.sets.specs.SumLaws.{count_zero_iff, on_le, on_true}
 use Rattle.sets.specs.Sets.{has, set_of, below, without_row}
 use Rattle.sets.specs.SetLaws.{has_set_of}
 use Rattle.rows.specs.Table.{row_count, table_fault}
-use Rattle.rows.specs.TableLaws.{judge_refused, judge_passed}
+use Rattle.rows.proofs.TableLaws.{judge_refused, judge_passed}
 use Rattle.rows.specs.Board.{Board, board_of}
 use Rattle.rows.specs.declared.terms.Terms.{Terms}
 use Rattle.test.specs.Test.{used, passes}
-use Rattle.test.specs.TestLaws.{used_ext}
+use Rattle.test.proofs.TestLaws.{used_ext}
 use Rattle.search.specs.Search.{rows_below, free}
 use Rattle.search.specs.Demand.{Order, among, Passing}
 use Rattle.search.specs.State.{distinct}

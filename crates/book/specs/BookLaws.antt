@@ -14,7 +14,7 @@ use Rattle.sets.specs.SumLaws.{first_is}
 use Rattle.sets.specs.SetLaws.{FitsWords}
 use Rattle.rows.specs.Table.{in_range, words_at, faulty, row_count, first_fault, table_checks, table_fault}
 use Rattle.rows.specs.declared.table.Checked.{Checked}
-use Rattle.rows.specs.TableLaws.{passed_valid, in_range_lem, fault_none}
+use Rattle.rows.proofs.TableLaws.{passed_valid, in_range_lem, fault_none}
 use Rattle.rows.specs.JudgeLaws.{Passed, append_passed, Refusing, refusing_append, done_passed, judge_works}
 use Rattle.book.specs.Bytes.{byte, big, sum16, check_of, run}
 use Rattle.book.specs.ByteLaws.{run_is, all_at}

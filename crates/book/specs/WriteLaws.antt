@@ -8,7 +8,7 @@ use Rattle.std.proofs.lemmas.Bool.{lt-leb}
 use Rattle.rows.specs.Judge.{Check, judge}
 use Rattle.rows.specs.Numbers.{done, short_output, book_field}
 use Rattle.rows.specs.Table.{row_count, table_fault}
-use Rattle.rows.specs.TableLaws.{judge_refused, judge_passed}
+use Rattle.rows.proofs.TableLaws.{judge_refused, judge_passed}
 use Rattle.book.specs.Form.{formed}
 use Rattle.book.specs.Layout.{edition_one, blocks, book_of}
 use Rattle.book.specs.LayoutLaws.{book_length}

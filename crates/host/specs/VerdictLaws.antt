@@ -17,7 +17,7 @@ use Rattle.sets.specs.SumLaws.{on_le, on_true, on_false, count_zero_iff}
 use Rattle.sets.specs.Sets.{word, has, set_of, none, within}
 use Rattle.sets.specs.SetLaws.{within_iff, set_of_fits}
 use Rattle.rows.specs.Table.{row_count, table_fault}
-use Rattle.rows.specs.TableLaws.{row_count_most}
+use Rattle.rows.proofs.TableLaws.{row_count_most}
 use Rattle.sets.specs.declared.Set.{Set}
 use Rattle.search.specs.Search.{rows_below, free}
 use Rattle.search.specs.Demand.{Order}

@@ -16,7 +16,7 @@ use Rattle.rows.specs.Board.{limited}
 use Rattle.sets.specs.BoolLaws.{either, and_fails}
 use Rattle.rows.specs.Numbers.{table_length}
 use Rattle.rows.specs.Table.{table_fault}
-use Rattle.rows.specs.TableLaws.{fault_length}
+use Rattle.rows.proofs.TableLaws.{fault_length}
 use Rattle.rows.specs.declared.table.Checked.{Checked}
 use Rattle.search.specs.Answers.{refusal, found_of, written_of}
 use Rattle.search.specs.CallLaws.{found_refused, written_same}

@@ -10,10 +10,10 @@ use Rattle.rows.specs.Numbers.{done, blocked}
 use Rattle.sets.specs.Sets.{has, mask, set_of, none, with_row, without_row, without}
 use Rattle.sets.specs.SetLaws.{has_set_of, has_without, set_ext}
 use Rattle.rows.specs.Table.{table, row_count}
-use Rattle.rows.specs.TableLaws.{row_count_most}
+use Rattle.rows.proofs.TableLaws.{row_count_most}
 use Rattle.sets.specs.declared.Set.{Set}
 use Rattle.rows.specs.JudgeLaws.{Passed, judge_works}
-use Rattle.test.specs.TestLaws.{used_ext}
+use Rattle.test.proofs.TestLaws.{used_ext}
 use Rattle.search.specs.Search.{elem}
 use Rattle.search.specs.Demand.{among}
 use Rattle.search.specs.Answers.{placed_of, found_of}

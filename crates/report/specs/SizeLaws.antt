@@ -15,10 +15,10 @@ use Rattle.rows.specs.Numbers.{done}
 use Rattle.sets.specs.Sets.{has, without}
 use Rattle.sets.specs.SumLaws.{sum_bound, on_true}
 use Rattle.rows.specs.Table.{in_range, words_at, table, row_count}
-use Rattle.rows.specs.TableLaws.{in_range_lem, read_in_range, read_out_of_range, row_count_most}
+use Rattle.rows.proofs.TableLaws.{in_range_lem, read_in_range, read_out_of_range, row_count_most}
 use Rattle.rows.specs.declared.table.Row.{Row}
 use Rattle.test.specs.Test.{interference, used}
-use Rattle.test.specs.TestLaws.{interference_fits}
+use Rattle.test.proofs.TestLaws.{interference_fits}
 use Rattle.search.specs.Search.{elem, rows_below}
 use Rattle.search.specs.Demand.{among}
 use Rattle.search.specs.Answers.{placed_of, found_of, written_of, Demanded}

@@ -3,4 +3,3 @@ pub mod Judge
 pub mod Table
 pub mod Board
 pub mod JudgeLaws
-pub mod TableLaws

@@ -14,7 +14,7 @@ use Rattle.sets.specs.BoolLaws.{either}
 use Rattle.rows.specs.declared.table.Row.{Row}
 use Rattle.workload.specs.Workload.{work, cap, plain, carry}
 use Rattle.test.specs.Test.{interference, used, passes}
-use Rattle.test.specs.TestLaws.{interference_scale, passes_iff, passes_few}
+use Rattle.test.proofs.TestLaws.{interference_scale, passes_iff, passes_few}
 use Rattle.search.specs.Search.{rows_below}
 use Rattle.search.specs.Demand.{Order, among, Passing}
 use Rattle.schedule.specs.Schedule.{Safe, Proper, Enough}

@@ -9,7 +9,7 @@ use Rattle.sets.specs.SumLaws.{sum_mono, sum_bound}
 use Rattle.rows.specs.declared.table.Row.{Row}
 use Rattle.workload.specs.Workload.{work, cap, plain, carry, extra}
 use Rattle.test.specs.Test.{interference, used, passes}
-use Rattle.test.specs.TestLaws.{passes_mono}
+use Rattle.test.proofs.TestLaws.{passes_mono}
 use Rattle.search.specs.Search.{rows_below, free}
 use Rattle.search.specs.Demand.{Order, among, Passing}
 use Rattle.search.specs.OrderLaws.{distinct_order}

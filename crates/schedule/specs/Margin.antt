@@ -12,7 +12,7 @@ use Rattle.sets.specs.NumberLaws.{le_or_lt, div_mono}
 use Rattle.rows.specs.declared.table.Row.{Row}
 use Rattle.workload.specs.Workload.{work, cap, plain, carry}
 use Rattle.test.specs.Test.{interference, passes}
-use Rattle.test.specs.TestLaws.{interference_scale, passes_iff}
+use Rattle.test.proofs.TestLaws.{interference_scale, passes_iff}
 use Rattle.search.specs.Search.{rows_below}
 use Rattle.search.specs.Demand.{Order, among, Passing}
 use Rattle.schedule.specs.Schedule.{Safe, Proper, Enough}

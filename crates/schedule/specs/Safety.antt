@@ -9,10 +9,10 @@ use Rattle.sets.specs.BoolLaws.{either}
 use Rattle.rows.specs.Numbers.{done}
 use Rattle.sets.specs.Sums.{times, on}
 use Rattle.rows.specs.Table.{table, row_count, table_fault}
-use Rattle.rows.specs.TableLaws.{Ranged, Valid, passed_valid}
+use Rattle.rows.proofs.TableLaws.{Ranged, Valid, passed_valid}
 use Rattle.rows.specs.declared.table.Row.{Row}
 use Rattle.test.specs.Test.{passes}
-use Rattle.test.specs.TestLaws.{passes_antitone}
+use Rattle.test.proofs.TestLaws.{passes_antitone}
 use Rattle.search.specs.Search.{rows_below, free, search}
 use Rattle.search.specs.Demand.{Order, among, Passing}
 use Rattle.search.specs.OrderLaws.{ledger, placing_distinct, placing_passing}

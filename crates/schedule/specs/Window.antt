@@ -16,9 +16,9 @@ use Rattle.sets.specs.BoolLaws.{either, not_both}
 use Rattle.sets.specs.SumLaws.{on_le, on_mono, sum_mono, sum_add, sum_zero, sum_scale, count_le}
 use Rattle.rows.specs.declared.table.Row.{Row}
 use Rattle.workload.specs.Workload.{cap, plain, carry, extra}
-use Rattle.workload.specs.WorkloadLaws.{work_mono}
+use Rattle.workload.proofs.WorkloadLaws.{work_mono}
 use Rattle.test.specs.Test.{plain_from, extra_from, interference, passes}
-use Rattle.test.specs.TestLaws.{passes_iff}
+use Rattle.test.proofs.TestLaws.{passes_iff}
 use Rattle.schedule.specs.Schedule.{Proper, Enough}
 use Rattle.schedule.specs.Lives.{Life, served, due, Meets}
 use Rattle.schedule.specs.MoreSums.{sum_split, sum_swap, top_choice, count_reach}

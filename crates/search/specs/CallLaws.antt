@@ -9,12 +9,12 @@ use Rattle.rows.specs.Judge.{Check, check}
 use Rattle.rows.specs.Numbers.{done, blocked, short_output}
 use Rattle.sets.specs.Sets.{set_of, none}
 use Rattle.rows.specs.Table.{table_fault}
-use Rattle.rows.specs.TableLaws.{judge_refused, judge_passed, row_count_most, fault_most}
+use Rattle.rows.proofs.TableLaws.{judge_refused, judge_passed, row_count_most, fault_most}
 use Rattle.rows.specs.Board.{Board, board_of}
 use Rattle.rows.specs.declared.terms.Terms.{Terms}
 use Rattle.rows.specs.declared.table.Checked.{Checked}
 use Rattle.test.specs.Test.{passes}
-use Rattle.test.specs.TestLaws.{passes_antitone}
+use Rattle.test.proofs.TestLaws.{passes_antitone}
 use Rattle.search.specs.Search.{rows_below, free}
 use Rattle.search.specs.Demand.{Truth}
 use Rattle.search.specs.Answers.{search_of, placed_of, number_of, refusal, found_by, found_of, written_of, Demanded}

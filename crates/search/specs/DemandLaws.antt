@@ -5,7 +5,7 @@ use Rattle.std.proofs.Common.{⊎_elim, arith, ltb-true, lt-ltb}
 use Rattle.sets.specs.Sums.{count}
 use Rattle.sets.specs.BoolLaws.{either, and_left, and_in}
 use Rattle.sets.specs.SumLaws.{count_mono, count_all, count_at, count_le}
-use Rattle.test.specs.TestLaws.{Antitone}
+use Rattle.test.proofs.TestLaws.{Antitone}
 use Rattle.search.specs.Search.{Progress, rows_below, free, run, fresh, next, finished, search}
 use Rattle.search.specs.Demand.{Truth}
 use Rattle.search.specs.FreeLaws.{free_in, in_free, same_set}

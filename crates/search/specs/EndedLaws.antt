@@ -11,7 +11,7 @@ use Rattle.sets.specs.SetLaws.{FitsWords, has_below, has_set_of_above}
 use Rattle.rows.specs.Board.{Board}
 use Rattle.sets.specs.declared.Set.{Set}
 use Rattle.test.specs.Test.{passes}
-use Rattle.test.specs.TestLaws.{passes_antitone}
+use Rattle.test.proofs.TestLaws.{passes_antitone}
 use Rattle.search.specs.Search.{rows_below, free, finished, search}
 use Rattle.search.specs.Demand.{Truth}
 use Rattle.search.specs.State.{order_of, fresh_state, placed_at}

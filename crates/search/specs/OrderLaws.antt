@@ -13,7 +13,7 @@ use Rattle.sets.specs.BoolLaws.{either, not_both}
 use Rattle.sets.specs.SumLaws.{on_le, on_true, on_false, sum_add, sum_zero, count_one, count_at}
 use Rattle.sets.specs.Sets.{◌⊆◌, without}
 use Rattle.sets.specs.SetLaws.{without_in, in_without}
-use Rattle.test.specs.TestLaws.{Antitone}
+use Rattle.test.proofs.TestLaws.{Antitone}
 use Rattle.search.specs.Search.{elem, free}
 use Rattle.search.specs.Demand.{Order, among, Passing, Placing, Stuck}
 use Rattle.search.specs.FreeLaws.{free_in, in_free}

@@ -18,12 +18,12 @@ use Rattle.rows.specs.Judge.{Check, check}
 use Rattle.rows.specs.Numbers.{done, blocked, unsound, unfinished}
 use Rattle.sets.specs.Sets.{has, set_of, without, none, without_row}
 use Rattle.rows.specs.Table.{row_count, table_fault}
-use Rattle.rows.specs.TableLaws.{judge_refused, judge_passed, row_count_most, fault_most}
+use Rattle.rows.proofs.TableLaws.{judge_refused, judge_passed, row_count_most, fault_most}
 use Rattle.rows.specs.Board.{Board, board_of}
 use Rattle.sets.specs.declared.Set.{Set}
 use Rattle.rows.specs.declared.terms.Terms.{Terms}
 use Rattle.test.specs.Test.{passes}
-use Rattle.test.specs.TestLaws.{passes_antitone}
+use Rattle.test.proofs.TestLaws.{passes_antitone}
 use Rattle.search.specs.Search.{rows_below, free, Progress, Run, fresh, tested, next, finished, probe, run, bound}
 use Rattle.search.specs.Demand.{Truth}
 use Rattle.search.specs.OrderLaws.{Distinct, tally}

@@ -5,7 +5,7 @@ use Rattle.std.proofs.Common.{subst, eqb-true}
 use Rattle.sets.specs.BoolLaws.{not_both}
 use Rattle.sets.specs.Sets.{◌⊆◌, without}
 use Rattle.sets.specs.SetLaws.{without_mono}
-use Rattle.test.specs.TestLaws.{Antitone}
+use Rattle.test.proofs.TestLaws.{Antitone}
 use Rattle.search.specs.Search.{elem, free}
 use Rattle.search.specs.Demand.{Placing, Stuck, Blocked}
 use Rattle.search.specs.FreeLaws.{free_in, in_free}

@@ -10,10 +10,10 @@ use Rattle.sets.specs.PassLaws.{Pass, next, next_from, pass_start, pass_next, pa
 use Rattle.sets.specs.Sets.{has, without, without_row}
 use Rattle.sets.specs.SetLaws.{has_without, without_in, without_other, without_at, without_swap}
 use Rattle.rows.specs.Table.{table, row_count}
-use Rattle.rows.specs.TableLaws.{row_count_most, row_count_bits}
+use Rattle.rows.proofs.TableLaws.{row_count_most, row_count_bits}
 use Rattle.sets.specs.declared.Set.{Set}
 use Rattle.test.specs.Test.{plain_on}
-use Rattle.test.specs.TestLaws.{plain_sum_less, plain_sum_ext}
+use Rattle.test.proofs.TestLaws.{plain_sum_less, plain_sum_ext}
 use Rattle.search.specs.Tally.{unknown, left_sum, Known, Tallied}
 
 pub tally_fresh : (words : List ℕ) (left : Set) (x : ℕ) → unknown ≤ x → Tallied words left (replicate 96 x)

@@ -7,7 +7,7 @@ use Rattle.sets.specs.SetLaws.{has_set_of, has_without}
 use Rattle.rows.specs.Board.{Board}
 use Rattle.sets.specs.declared.Set.{Set}
 use Rattle.test.specs.Test.{passes}
-use Rattle.test.specs.TestLaws.{passes_ext}
+use Rattle.test.proofs.TestLaws.{passes_ext}
 
 module _ (b : Board) (most : b.n ≤ 96) where
   pub test_ext : (H G : ℕ → Bool) (k : ℕ) → ((i : ℕ) → i < 128 → H i ≡ G i) → passes b H k ≡ passes b G k

@@ -10,7 +10,7 @@ use borrow.Author.Rules.{rules}
 use Rattle.rows.specs.Board.{board_of, limited}
 use Rattle.sets.specs.Sets.{has}
 use Rattle.rows.specs.Table.{row_count}
-use Rattle.rows.specs.TableLaws.{row_count_most}
+use Rattle.rows.proofs.TableLaws.{row_count_most}
 use Rattle.search.specs.Answers.{placed_of, found_of}
 use Rattle.report.specs.Text.{lines}
 use Rattle.report.specs.TextLaws.{Room, room_first, room_rest, puts_then}

@@ -2,7 +2,7 @@
 use Rattle.std.specs.Prelude.{refl}
 use Rattle.std.proofs.Common.{◌∙◌, rules}
 use Rattle.workload.specs.Workload.{carry}
-use Rattle.workload.specs.WorkloadLaws.{cap_fits}
+use Rattle.workload.proofs.WorkloadLaws.{cap_fits}
 use Rattle.workload.proofs.carry.Goals as goal
 
 pub returns-then-length-le4294967295 : goal.returns-then-length-le4294967295

@@ -2,7 +2,7 @@
 use Rattle.std.specs.Prelude.{◌-◌}
 use Rattle.std.proofs.Common.{ap₂, arith}
 use Rattle.workload.specs.Workload.{extra}
-use Rattle.workload.specs.WorkloadLaws.{plain_carry}
+use Rattle.workload.proofs.WorkloadLaws.{plain_carry}
 use Rattle.workload.proofs.extra.Goals as goal
 
 pub overflow_sub-result : goal.overflow_sub-result

@@ -3,7 +3,7 @@
 use Rattle.std.specs.Prelude.{◌/◌, ◌≡◌}
 use Rattle.std.proofs.Common.{sym, ◌∙◌, arith}
 use Rattle.std.proofs.Math.Nat.{div-zero, div-eq_of_lt}
-use Rattle.workload.specs.WorkloadLaws.{work_short, work_divided}
+use Rattle.workload.proofs.WorkloadLaws.{work_short, work_divided}
 use Rattle.workload.proofs.work.Goals as goal
 use Rattle.workload.proofs.work.Goals.{then-row-eq0-via-then-row-eq0, then-row-eq0-via-else-row-eq0+then-length-row}
 

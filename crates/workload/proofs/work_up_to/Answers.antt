@@ -3,7 +3,7 @@
 use Rattle.std.specs.Prelude.{refl}
 use Rattle.std.proofs.Common.{◌∙◌}
 use Rattle.workload.specs.Workload.{work}
-use Rattle.workload.specs.WorkloadLaws.{work_most}
+use Rattle.workload.proofs.WorkloadLaws.{work_most}
 use Rattle.workload.proofs.work_up_to.Goals as goal
 
 pub returns-then-most-whole : goal.returns-then-most-whole

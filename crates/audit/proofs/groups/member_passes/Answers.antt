@@ -2,7 +2,7 @@
 -- Assumes nothing.
 use Rattle.std.proofs.Common.{sym, ◌∙◌}
 use Rattle.rows.specs.Board.{board_of}
-use Rattle.rows.specs.TableLaws.{row_count_most}
+use Rattle.rows.proofs.TableLaws.{row_count_most}
 use Rattle.search.specs.TestOfLaws.{test_without}
 use Rattle.audit.proofs.groups.member_passes.Goals as goal
 

@@ -1,7 +1,7 @@
 -- Each answer is the law of the check that decides it: those of the table, then the order's form, then its levels.
 -- The levels are scanned only of an order, which is what that scan requires. Assumes nothing.
 use Rattle.std.proofs.Common.{sym, ◌∙◌}
-use Rattle.rows.specs.TableLaws.{row_count_most}
+use Rattle.rows.proofs.TableLaws.{row_count_most}
 use Rattle.audit.specs.OrderLaws.{order_refused, order_malformed, order_levels}
 use Rattle.audit.proofs.orders.check_order.Goals as goal
 

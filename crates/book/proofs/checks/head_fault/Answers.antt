@@ -9,7 +9,7 @@ use lib.Dec.{leb}
 use lib.ListN.{length, get_or}
 use borrow.Author.Tests.{eq-eqb, ne_eqb, le-leb, lt-leb, ltb-true, ltb-false}
 use Rattle.sets.specs.BoolLaws.{and_in, and_fails}
-use Rattle.rows.specs.TableLaws.{some_cores}
+use Rattle.rows.proofs.TableLaws.{some_cores}
 use Rattle.book.specs.Layout.{edition_one, blocks}
 use Rattle.book.specs.Read.{content, head_checks}
 use borrow.Author.Rules.{rules}

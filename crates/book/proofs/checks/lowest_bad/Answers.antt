@@ -5,7 +5,7 @@ use native.Mathlib.Nat.{sub-zero}
 use Rattle.sets.specs.Sums.{first}
 use Rattle.sets.specs.SumLaws.{first_taken, first_next, first_end}
 use Rattle.rows.specs.Table.{faulty}
-use Rattle.rows.specs.TableLaws.{read_fault, read_fine}
+use Rattle.rows.proofs.TableLaws.{read_fault, read_fine}
 use Rattle.book.specs.Layout.{edition_one}
 use Rattle.book.specs.Read.{content}
 use Rattle.book.specs.ReadLaws.{lowest_bad_lem}

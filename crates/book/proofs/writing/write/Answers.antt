@@ -9,7 +9,7 @@ use lib.ListN.{drop}
 use borrow.Author.Tests.{not-true, not-false}
 use Rattle.rows.specs.Numbers.{done}
 use Rattle.rows.specs.Table.{row_count, table_fault}
-use Rattle.rows.specs.TableLaws.{row_count_most, passed_valid}
+use Rattle.rows.proofs.TableLaws.{row_count_most, passed_valid}
 use Rattle.rows.specs.declared.table.Checked.{Checked}
 use Rattle.book.specs.Form.{formed}
 use Rattle.book.specs.FormLaws.{formed_kind}

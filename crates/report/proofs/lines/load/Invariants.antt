@@ -7,7 +7,7 @@ use native.Mathlib.Numerals.{add-one}
 use native.Mathlib.Nat.{div-le_self}
 use borrow.Author.Rules.{rules}
 use Rattle.rows.specs.Table.{row_count}
-use Rattle.rows.specs.TableLaws.{row_count_most}
+use Rattle.rows.proofs.TableLaws.{row_count_most}
 use Rattle.sets.specs.Sums as S
 use Rattle.report.specs.Listing.{share, load}
 use Rattle.report.proofs.lines.load.Given as goal

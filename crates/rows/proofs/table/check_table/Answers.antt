@@ -4,7 +4,7 @@ use Rattle.std.specs.Prelude.{ℕ, ◌/◌, ◌%◌, ◌≡◌, ◌≤◌, true,
 use Rattle.std.proofs.Common.{sym, inl, inr, eq-eqb, ne_eqb, le-leb}
 use Rattle.std.proofs.lemmas.Bool.{lt-leb}
 use Rattle.sets.specs.BoolLaws.{and_in, and_fails}
-use Rattle.rows.specs.TableLaws.{well_sized, some_cores, fault_length, fault_cores, fault_row, fault_none}
+use Rattle.rows.proofs.TableLaws.{well_sized, some_cores, fault_length, fault_cores, fault_row, fault_none}
 use Rattle.rows.proofs.table.check_table.Goals as goal
 use Rattle.rows.proofs.table.check_table.Goals.{then-words-ne0-via-then-words-ne0, then-words-ne0-via-else-words-ne0+then-n-gt96, then-m-lt1-via-then-m-lt1, then-m-lt1-via-else-m-lt1+then-m-gt32}
 

@@ -4,7 +4,7 @@ use Rattle.std.proofs.Common.{sym, ◌∙◌}
 use Rattle.std.proofs.Math.Nat.{sub-zero}
 use Rattle.sets.specs.SumLaws.{first_taken, first_next, first_end}
 use Rattle.rows.specs.Table.{first_fault}
-use Rattle.rows.specs.TableLaws.{read_fault, read_fine}
+use Rattle.rows.proofs.TableLaws.{read_fault, read_fine}
 use Rattle.rows.proofs.table.first_fault.Goals as goal
 
 pub loop-row-init : goal.loop-row-init

@@ -8,7 +8,7 @@ use lib.ListN.{length, drop}
 use borrow.Author.Rules.{rules}
 use Rattle.rows.specs.Numbers.{done}
 use Rattle.rows.specs.Table.{row_count, table_fault}
-use Rattle.rows.specs.TableLaws.{row_count_most}
+use Rattle.rows.proofs.TableLaws.{row_count_most}
 use Rattle.rows.specs.Board.{board_of, limited}
 use Rattle.rows.specs.declared.terms.Terms.{Terms}
 use Rattle.search.specs.Answers.{placed_of, found_of, written_of, Demanded}

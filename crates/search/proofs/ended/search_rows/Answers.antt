@@ -11,7 +11,7 @@ use Rattle.sets.specs.Sets.{has}
 use Rattle.sets.specs.SetLaws.{has_above}
 use Rattle.rows.specs.Board.{board_of}
 use Rattle.rows.specs.Table.{row_count}
-use Rattle.rows.specs.TableLaws.{row_count_most}
+use Rattle.rows.proofs.TableLaws.{row_count_most}
 use Rattle.test.specs.Test.{passes}
 use Rattle.search.specs.Answers.{passing}
 use Rattle.search.specs.Tally.{Tallied}

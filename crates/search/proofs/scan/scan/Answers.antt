@@ -12,7 +12,7 @@ use Rattle.sets.specs.Sums.{count, first}
 use Rattle.sets.specs.SumLaws.{count_le, first_taken, first_next, first_end}
 use Rattle.sets.specs.Sets.{has, without}
 use Rattle.rows.specs.Board.{board_of}
-use Rattle.rows.specs.TableLaws.{row_count_most}
+use Rattle.rows.proofs.TableLaws.{row_count_most}
 use Rattle.test.specs.Test.{passes}
 use Rattle.search.specs.Answers.{passing}
 use Rattle.search.specs.Tally.{Tallied}

@@ -4,7 +4,7 @@ use mathlib.Core.Path.{◌≡◌, sym, ap₂, ◌∙◌}
 use native.Mathlib.Omega.{arith}
 use borrow.Author.Rules.{rules}
 use Rattle.sets.specs.Sets.{has, without_row}
-use Rattle.rows.specs.TableLaws.{row_count_most}
+use Rattle.rows.proofs.TableLaws.{row_count_most}
 use Rattle.sets.specs.declared.Set.{Set}
 use Rattle.rows.specs.Board.{board_of}
 use Rattle.test.specs.Test.{passes}

@@ -5,7 +5,7 @@ use native.Mathlib.Omega.{arith}
 use borrow.Author.Rules.{rules}
 use borrow.Author.Tests.{ltb-true, ltb-false}
 use Rattle.rows.specs.Board.{board_of}
-use Rattle.rows.specs.TableLaws.{row_count_most}
+use Rattle.rows.proofs.TableLaws.{row_count_most}
 use Rattle.search.specs.Tally.{Tallied}
 use Rattle.search.specs.TallyLaws.{tally_fresh}
 use Rattle.search.specs.StepLaws.{Stands, stands_start, stands_placed, stands_left, stands_probe, run_unfinished, run_blocked, run_done}

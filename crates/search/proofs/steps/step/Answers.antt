@@ -4,7 +4,7 @@ use mathlib.Core.Path.{◌≡◌, sym, ◌∙◌}
 use borrow.Author.Tests.{not-true, not-false}
 use Rattle.rows.specs.Numbers.{done}
 use Rattle.rows.specs.Table.{row_count, table_fault}
-use Rattle.rows.specs.TableLaws.{row_count_most}
+use Rattle.rows.proofs.TableLaws.{row_count_most}
 use Rattle.search.specs.State.{sound}
 use Rattle.search.specs.StepLaws.{step_refused, step_unsound, step_work, step_meets}
 use borrow.Author.Rules.{rules}

@@ -5,8 +5,8 @@ use mathlib.Core.Path.{◌≡◌, refl, ◌∙◌}
 use mathlib.Core.Logic.{⊎_elim}
 use native.Mathlib.Omega.{arith}
 use borrow.Author.Rules.{rules}
-use Rattle.rows.specs.TableLaws.{row_count_most}
-use Rattle.test.specs.TestLaws.{passes_with_lem}
+use Rattle.rows.proofs.TableLaws.{row_count_most}
+use Rattle.test.proofs.TestLaws.{passes_with_lem}
 use Rattle.search.specs.Tally.{left_sum, Tallied}
 use Rattle.search.specs.TallyLaws.{tally_kept}
 use Rattle.search.proofs.tally.passes.Goals as goal

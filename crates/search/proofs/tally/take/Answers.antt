@@ -6,7 +6,7 @@ use borrow.Author.Rules.{rules}
 use Rattle.sets.specs.PassLaws.{next_from}
 use Rattle.sets.specs.Sets.{has}
 use Rattle.rows.specs.Table.{row_count}
-use Rattle.rows.specs.TableLaws.{row_count_most}
+use Rattle.rows.proofs.TableLaws.{row_count_most}
 use Rattle.search.specs.TallyLaws.{Taking, taking_start, taking_fits, taking_unknown, taking_less, taking_end}
 use Rattle.search.proofs.tally.take.Goals as goal
 use Rattle.search.proofs.tally.take.Goals.{In-loop-i}

@@ -18,9 +18,9 @@ use Rattle.sets.specs.Sets.{◌⊆◌, without}
 use Rattle.sets.specs.SetLaws.{sum_without}
 use Rattle.rows.specs.declared.table.Row.{Row}
 use Rattle.rows.specs.Board.{Board, carrying, holding}
-use Rattle.rows.specs.TableLaws.{Ranged}
+use Rattle.rows.proofs.TableLaws.{Ranged}
 use Rattle.workload.specs.Workload.{plain, carry, extra, cap}
-use Rattle.workload.specs.WorkloadLaws.{plain_cap, extra_cap, plain_extra, carry_cap, cap_fits}
+use Rattle.workload.proofs.WorkloadLaws.{plain_cap, extra_cap, plain_extra, carry_cap, cap_fits}
 use Rattle.test.specs.Test.{top, plain_from, extra_from, interference, used, passes, plain_on, plain_sum, passes_with}
 use Rattle.test.specs.TopLaws.{top_mono, top_more, top_sum, top_ext, top_scale}
 
