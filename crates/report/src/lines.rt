@@ -34,6 +34,7 @@ fn load(words: &[u32]) -> u64
     sum
 }
 
+#[tactic(auto, unfolding(crate::specs::Listing::header))]
 pub(crate) fn put_header(
     word: &[u8],
     words: &[u32],
@@ -56,6 +57,7 @@ pub(crate) fn put_header(
 }
 
 // Row k with the rows above it.
+#[tactic(auto, unfolding(crate::specs::Listing::row_line))]
 fn put_row(words: &[u32], m: u32, above: Set, k: usize, out: &mut [u8], at: usize) -> usize
     requires { Room at (row_line words.now m (has above) k) }
     ensures { Puts out.old at (row_line words.now m (has above) k) out.new result }

@@ -1,17 +1,14 @@
--- The goals that are not found.
-use Prim.Native.Nat.{ℕ, ◌+◌, ◌-◌, ◌*◌, ◌/◌, ◌%◌, ◌≤◌, ◌<◌}
-use mathlib.Core.Path.{◌≡◌, refl}
-use mathlib.Core.List.{List}
-use native.Mathlib.Omega.{arith}
-use lib.ListN.{get_or}
+use Rattle.std.specs.Prelude.{ℕ, ◌+◌, ◌-◌, ◌*◌, ◌/◌, ◌%◌, ◌<◌, ◌≡◌, refl, get_or}
+use Rattle.std.proofs.Common.{arith}
 use Rattle.book.specs.Bytes.{byte}
-use Rattle.book.specs.PartsLaws.{Storing, storing_none, storing_more}
-use borrow.Author.Rules.{rules}
+use Rattle.book.specs.PartsLaws.{storing_none, storing_more}
 use Rattle.book.proofs.storing.store_words.Goals as goal
+use Rattle.book.proofs.storing.store_words.Invariants.{word_byte}
 
--- byte q of the words from `first` on
-abbrev word_byte : List ℕ → ℕ → ℕ → ℕ
-word_byte words first q = byte (3 - q % 4) (get_or words (first + q / 4) 0)
+pub loop-j-init : goal.loop-j-init
+loop-j-init c =
+    let z : 4 * (c.args.first - c.args.first) ≡ 0 = omega arith in
+    (omega arith, omega arith, rw z (storing_none _ _ _))
 
 pub loop-j-preserved : goal.loop-j-preserved
 loop-j-preserved c = let l = c.loop-j in
@@ -30,13 +27,5 @@ loop-j-preserved c = let l = c.loop-j in
 
 pub returns : goal.returns
 returns c = let l = c.loop-j in
-    let a = c.args in
-    let e : l.j - a.first ≡ a.count = omega arith in
+    let e : l.j - c.args.first ≡ c.args.count = omega arith in
     rw e at l.invariant.2.1
-
--- INLINE (λ c.
--- INLINE     let first = c.before.before.args.first in
--- INLINE     let z : 4 * (first - first) ≡ 0 = omega arith in
--- INLINE     (omega arith, omega arith, rw z (storing_none _ _ _)))
-
--- INLINE (λ c. c.before.loop.invariant.2.0)

@@ -1,16 +1,9 @@
 -- The loop's invariant: every entry before i fits, and the rows seen are those among the first i entries.
 -- An entry that does not fit ends the loop, and the definition fails there; behind the p rows the others decide. Assumes nothing.
-use Prim.Native.Nat.{◌-◌, ◌≤◌}
-use mathlib.Core.Path.{◌≡◌, refl, sym, ◌∙◌}
-use mathlib.Core.Bool.{true}
-use native.Mathlib.Omega.{arith}
-use borrow.Author.Tests.{not-true, not-false}
+use Rattle.std.specs.Prelude.{◌-◌, ◌≤◌, ◌≡◌, true}
 use Rattle.sets.specs.Sets.{set_of}
 use Rattle.book.specs.Bytes.{all}
-use Rattle.book.specs.ByteLaws.{all_fails, all_more}
-use Rattle.book.specs.Form.{among, entry_fits, order_fits}
-use Rattle.book.specs.FormLaws.{seen_none, seen_more, entry_seen, order_rest}
-use borrow.Author.Rules.{rules}
+use Rattle.book.specs.Form.{among, entry_fits}
 use Rattle.book.proofs.verdicts.order_fits.Given as goal
 
 abbrev pub invariant-loop-i : goal.invariant-loop-i

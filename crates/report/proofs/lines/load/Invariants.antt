@@ -1,15 +1,8 @@
 -- The invariant: the sum is the load of the rows passed, at most 2 ^ 42 for each.
 -- Each turn adds one row's share. Assumes nothing.
-use Prim.Native.Nat.{◌*◌, ◌-◌, ◌^◌, ◌≤◌, ◌<◌}
-use mathlib.Core.Path.{◌≡◌, refl}
-use native.Mathlib.Omega.{arith}
-use native.Mathlib.Numerals.{add-one}
-use native.Mathlib.Nat.{div-le_self}
-use borrow.Author.Rules.{rules}
-use Rattle.rows.specs.Table.{row_count}
-use Rattle.rows.proofs.TableLaws.{row_count_most}
+use Rattle.std.proofs.Common.{◌≡◌, ◌-◌, ◌*◌, ◌^◌, ◌≤◌}
 use Rattle.sets.specs.Sums as S
-use Rattle.report.specs.Listing.{share, load}
+use Rattle.report.specs.Listing.{share}
 use Rattle.report.proofs.lines.load.Given as goal
 
 abbrev pub invariant-loop-i : goal.invariant-loop-i
