@@ -25,7 +25,7 @@ use Rattle.book.specs.LayoutLaws.{Fit, book_length, book_at, sealed_open, sealed
 use Rattle.book.specs.Read.{of_block, place, word_at, content, whole, numbered, checked, each_block, block_checks, head_checks, spelled, row_words, lowest_bad, body_checks, read_checks}
 
 pub record Legal (e : Edition) (x : Content) : Type 0 where
-  pub some_cores_lem : 1 ≤ x.m
+  pub some_cores : 1 ≤ x.m
   pub most_cores : x.m ≤ 32
   pub few : x.n ≤ 96
   pub order : length x.verdict.order ≡ 96
@@ -207,7 +207,7 @@ module _ (e : Edition) (f : Fit e) (x : Content) (l : Legal e x) where
   unfolding head_checks size
   head_passed = (
     eq-eqb _ _ (field 0 (omega arith)),
-    (and_in _ _ (le-leb 1 _ l.some_cores_lem) (le-leb _ 32 l.most_cores), (le-leb _ 96 l.few, (eq-eqb _ _ len, tt))),
+    (and_in _ _ (le-leb 1 _ l.some_cores) (le-leb _ 32 l.most_cores), (le-leb _ 96 l.few, (eq-eqb _ _ len, tt))),
   )
 
   body_passed : (room : ℕ) → 3 * x.n ≤ room → Passed (body_checks e x (book_of e x) room)

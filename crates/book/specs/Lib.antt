@@ -13,10 +13,7 @@ pub mod PartsLaws
 pub mod FaultLaws
 pub mod LayoutLaws
 pub mod BlockLaws
-pub mod ReadLaws
-pub mod SpareLaws
+pub mod Known
 pub mod FormLaws
-pub mod WriteLaws
 pub mod BackLaws
-pub mod BookLaws
 pub mod Cases

@@ -6,7 +6,7 @@ ghost use Rattle.book.specs.Layout.{edition_one, blocks};
 ghost use Rattle.book.specs.Read.{whole as whole_of, numbered as numbered_at, checked as checked_at, content, verdict_of, lowest_bad, block_checks, head_checks, body_checks, read_checks};
 ghost use Rattle.book.specs.Fault.{fault_of};
 ghost use Rattle.book.specs.Spare.{zero_block, zeros, blank as blank_of};
-ghost use Rattle.book.specs.ReadLaws.{Sealed, Headed};
+ghost use Rattle.book.specs.Known.{Sealed, Headed};
 
 use crate::{bytes, fields, layout, verdicts};
 use rows::{RowRead, numbers};
@@ -33,6 +33,7 @@ fn checked(book: &[u8], k: usize) -> bool
 }
 
 // The length is that of one to four blocks.
+#[tactic(auto, unfolding(crate::specs::Read::whole))]
 fn whole(book: &[u8]) -> bool
     ensures { result ≡ whole_of book.now }
 {
@@ -68,6 +69,7 @@ fn blocks_fault(book: &[u8]) -> Fault
 }
 
 // 12, 2, 1, and 9 for n.
+#[tactic(auto, unfolding(crate::specs::Read::head_checks, crate::specs::Read::content))]
 fn head_fault(book: &[u8]) -> Fault
     requires { 512 ≤ length book.now }
     ensures { result ≡ fault_of (head_checks edition_one (content edition_one book.now) book.now) }

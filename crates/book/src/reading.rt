@@ -2,7 +2,7 @@
 ghost use Rattle.std.specs.Prelude.{◌≡◌, ◌++◌, ◌*◌, ◌≤◌, length, drop};
 ghost use Rattle.book.specs.Layout.{edition_one};
 ghost use Rattle.book.specs.Read.{content, refused as refused_of, read_of, read_into};
-ghost use Rattle.book.specs.ReadLaws.{Headed};
+ghost use Rattle.book.specs.Known.{Headed};
 
 use crate::checks::Fault;
 use crate::verdicts::Verdict;

@@ -15,8 +15,8 @@ use Rattle.search.specs.Answers.{found_of}
 use Rattle.book.specs.Layout.{edition_one, blocks}
 use Rattle.book.specs.Read.{content, read_checks, refused, read_of, read_into, taken}
 use Rattle.book.specs.Write.{content_of, write_of, write_into}
-use Rattle.book.specs.WriteLaws.{write_done}
-use Rattle.book.specs.BookLaws.{read_passed, Handed, read_handed, reads_back}
+use Rattle.book.proofs.WriteLaws.{write_done}
+use Rattle.book.proofs.BookLaws.{read_passed, Handed, read_handed, reads_back}
 use Rattle.book.specs.declared.reading.BookRead.{BookRead}
 use Rattle.book.specs.declared.writing.BookWritten.{BookWritten}
 use Rattle.host.specs.Host.{verdict_by, searched, host_checks, host_number, host_into}

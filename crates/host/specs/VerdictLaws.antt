@@ -30,7 +30,7 @@ use Rattle.search.specs.declared.call.Found.{Found}
 use Rattle.book.specs.ByteLaws.{all_make}
 use Rattle.book.specs.Form.{among, entry_fits, order_fits, group_fits, formed}
 use Rattle.book.specs.FormLaws.{group_none, group_some}
-use Rattle.book.specs.BookLaws.{Typed}
+use Rattle.book.proofs.BookLaws.{Typed}
 use Rattle.book.specs.declared.verdicts.Verdict.{Verdict}
 use Rattle.host.specs.Host.{verdict_by}
 

@@ -21,7 +21,7 @@ use Rattle.search.specs.CallLaws.{placed_most, found_blocked, found_done}
 use Rattle.search.specs.declared.call.Found.{Found}
 use Rattle.book.specs.Layout.{edition_one}
 use Rattle.book.specs.Read.{content, read_checks, each_block, block_checks, head_checks, body_checks, refused, taken, read_of}
-use Rattle.book.specs.BookLaws.{Handed, read_handed}
+use Rattle.book.proofs.BookLaws.{Handed, read_handed}
 use Rattle.book.specs.declared.reading.BookRead.{BookRead}
 use Rattle.report.specs.Text.{lines}
 use Rattle.report.specs.Listing.{order_word, blocked_word, header, row_text, row_line, at_level, level_line, member_line, listed, refused_text, listing_of}

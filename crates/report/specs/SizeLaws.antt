@@ -29,7 +29,7 @@ use Rattle.book.specs.Layout.{edition_one}
 use Rattle.book.specs.Read.{content, read_of}
 use Rattle.report.specs.TextLaws.{decimal_short, lines_most}
 use Rattle.report.specs.Listing.{order_word, blocked_word, share, load, header, row_line, level_line, member_line, listed, refused_text, listing_of}
-use Rattle.book.specs.BookLaws.{read_handed}
+use Rattle.book.proofs.BookLaws.{read_handed}
 use Rattle.report.specs.ListingLaws.{Cases, unread, read, listing_cases}
 
 -- ---- the numbers

@@ -172,7 +172,7 @@ module _ {A : Type 0} (words : List ℕ) (m : ℕ) (others : List Check) (refuse
 
 -- a table and core count that passed
 pub record Valid (words : List ℕ) (m : ℕ) : Type 0 where
-  pub some_cores_lem : 1 ≤ m
+  pub some_cores : 1 ≤ m
   pub most_cores : m ≤ 32
   pub whole : length words ≡ 3 * row_count words
   pub most_rows : row_count words ≤ 96
@@ -200,7 +200,7 @@ passed_valid words m h =
     λ i q. scan.before i (omega arith) (omega (arith, leb-true (length words / 3) (lowest_fault words) l))
     in
     record {
-      some_cores_lem = leb-true 1 m (and_left (leb 1 m) (leb m 32) f);
+      some_cores = leb-true 1 m (and_left (leb 1 m) (leb m 32) f);
       most_cores = leb-true m 32 (and_right (leb 1 m) (leb m 32) f);
       whole = omega arith;
       most_rows = omega arith;

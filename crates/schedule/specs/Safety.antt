@@ -78,8 +78,8 @@ found_valid words m room h =
 valid_safe : (words : List ℕ) (m : ℕ) (o : List ℕ) → Valid words m → Order (rows_below (row_count words)) o → Passing (passes (board_of words (limited m))) o
     → Safe (row_count words) m (table words) o
 valid_safe words m o valid =
-    order_safe (row_count words) m (table words) valid.some_cores_lem (λ i l. ranged_proper (table words i) (valid.ranged i l)) (m - 1)
-    (inl (omega (arith, valid.some_cores_lem))) o
+    order_safe (row_count words) m (table words) valid.some_cores (λ i l. ranged_proper (table words i) (valid.ranged i l)) (m - 1)
+    (inl (omega (arith, valid.some_cores))) o
 
 -- the order that the search answers is safe: where it answers 0, every job of every row is in time in every legal schedule
 pub found_safe : (words : List ℕ) (m : ℕ) (out : List ℕ) → (found_of words (limited m) (length out)).number ≡ done

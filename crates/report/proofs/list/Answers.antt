@@ -1,7 +1,7 @@
 -- A book that reading refuses has the text of its number, and of one that was read the table at the start of the words is listed.
 -- Either way the text is put from the output's start on. Assumes nothing.
 use Rattle.std.proofs.Common.{sym, ◌∙◌, arith, zero-add, length-take-le}
-use Rattle.book.specs.BookLaws.{Handed, handed, lent}
+use Rattle.book.proofs.BookLaws.{Handed, handed, lent}
 use Rattle.report.specs.ListingLaws.{listing_refused, listing_read}
 use Rattle.report.proofs.list.Goals as goal
 use Rattle.report.proofs.list.Goals.{Else-read-ne-DONE}

@@ -1,12 +1,7 @@
--- The goals that are not found.
-use Prim.Native.Nat.{ℕ, suc, ◌+◌, ◌*◌, ◌-◌, ◌≤◌}
-use mathlib.Core.Path.{◌≡◌, refl, ap, ◌∙◌}
-use native.Mathlib.Omega.{arith}
-use lib.ListN.{get_or}
+use Rattle.std.proofs.Common.{ℕ, suc, ◌+◌, ◌*◌, ◌≡◌, refl, ap, ◌∙◌, arith, get_or}
 use Rattle.book.specs.Bytes.{little, sum16}
 use Rattle.book.specs.ByteLaws.{sum16_word, sum16_pair}
 use Rattle.book.specs.Parts.{carried}
-use borrow.Author.Rules.{rules}
 use Rattle.book.proofs.bytes.block_sum.Goals as goal
 
 pub loop-i-init : goal.loop-i-init
@@ -24,7 +19,7 @@ loop-i-preserved c = let l = c.loop-i in
     let next : suc (suc (2 * l.i)) ≡ 2 * (l.i + 1) = omega arith in (
       omega arith,
       ap (λ (w : ℕ). carried (256 * (l.s + w))) pair
-          ∙ sum16_pair f (λ p. omega (arith, c.shared_slice_known-1.given (a.at + p))) (2 * l.i) l.s l.invariant.1 ∙ ap (λ (j : ℕ). sum16 j f) next,
+          ∙ sum16_pair f (λ p. omega (arith, c.type_inv.bytes (a.at + p))) (2 * l.i) l.s l.invariant.1 ∙ ap (λ (j : ℕ). sum16 j f) next,
       omega arith,
     )
 
@@ -38,6 +33,6 @@ returns c = let l = c.loop-i in
     let last : c.read_u16.result ≡ f 508 * 256 + f 509 = omega (arith, c.read_u16.ensures.0, same 0, same 1) in
     let e : 2 * l.i ≡ 254 = omega arith in (
       c.carried.ensures.0 ∙ ap (λ (w : ℕ). carried (256 * l.s + w)) last
-          ∙ sum16_word f (λ p. omega (arith, c.shared_slice_known-1.given (a.at + p))) 254 (256 * l.s) (rw e at l.invariant.1),
+          ∙ sum16_word f (λ p. omega (arith, c.type_inv.bytes (a.at + p))) 254 (256 * l.s) (rw e at l.invariant.1),
       c.carried.ensures.1,
     )

@@ -1,13 +1,8 @@
 -- The loop's invariant: s is a plain sum of i pairs read low byte first, and the carries of 256 s, taken around, give the sum of their words.
 -- A turn adds the next pair, 127 of them do not fill 64 bits, and the last word is added as it is. Assumes nothing.
-use Prim.Native.Nat.{ℕ, suc, ◌+◌, ◌*◌, ◌-◌, ◌≤◌}
-use mathlib.Core.Path.{◌≡◌, refl, ap, ◌∙◌}
-use native.Mathlib.Omega.{arith}
-use lib.ListN.{get_or}
-use Rattle.book.specs.Bytes.{little, sum16}
-use Rattle.book.specs.ByteLaws.{sum16_word, sum16_pair}
+use Rattle.std.proofs.Common.{◌+◌, ◌*◌, ◌-◌, ◌≤◌, ◌≡◌, get_or}
+use Rattle.book.specs.Bytes.{sum16}
 use Rattle.book.specs.Parts.{carried}
-use borrow.Author.Rules.{rules}
 use Rattle.book.proofs.bytes.block_sum.Given as goal
 
 abbrev pub invariant-loop-i : goal.invariant-loop-i

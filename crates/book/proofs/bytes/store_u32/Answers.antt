@@ -1,8 +1,7 @@
 -- The bytes of the number, high byte first, are stored as four bytes.
 -- Each is what its function ensures. Assumes nothing.
-use mathlib.Core.Path.{refl, ◌∙◌}
+use Rattle.std.proofs.Common.{◌∙◌}
 use Rattle.book.specs.Parts.{stored}
-use borrow.Author.Rules.{rules}
 use Rattle.book.proofs.bytes.store_u32.Goals as goal
 
 pub returns : goal.returns
@@ -14,4 +13,3 @@ returns c = c.store_four.ensures
       c.byte_of-3.ensures,
       c.byte_of-4.ensures,
     )
-    refl

@@ -1,17 +1,9 @@
 -- The loop's invariant: the spare bytes of block 0 and of the first k row blocks are zero.
 -- A block where one is not ends the loop, and the definition fails there. Assumes nothing.
-use Prim.Native.Nat.{◌+◌, ◌-◌, ◌/◌, ◌≤◌}
-use mathlib.Core.Path.{◌≡◌, sym, ◌∙◌}
-use mathlib.Core.Bool.{true}
-use native.Mathlib.Omega.{arith}
-use borrow.Author.Tests.{not-true, not-false}
-use lib.ListN.{length}
+use Rattle.std.proofs.Common.{◌+◌, ◌-◌, ◌≤◌, ◌≡◌, true}
 use Rattle.book.specs.Bytes.{all}
-use Rattle.book.specs.ByteLaws.{all_fails, all_more}
 use Rattle.book.specs.Layout.{edition_one, blocks}
-use Rattle.book.specs.Spare.{zero_block, zeros}
-use Rattle.book.specs.SpareLaws.{head_blank}
-use borrow.Author.Rules.{rules}
+use Rattle.book.specs.Spare.{zero_block}
 use Rattle.book.proofs.checks.all_zero.Given as goal
 
 abbrev pub invariant-loop-k : goal.invariant-loop-k

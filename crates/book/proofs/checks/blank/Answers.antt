@@ -1,18 +1,6 @@
--- The goals that are not found.
-use Prim.Native.Nat.{◌-◌, ◌≤◌}
-use mathlib.Core.Path.{◌≡◌, ap, ◌∙◌}
-use native.Mathlib.Omega.{arith}
-use lib.Dec.{eqb}
-use Rattle.book.specs.Spare.{blank}
-use Rattle.book.specs.SpareLaws.{blank_none, blank_more}
-use borrow.Author.Rules.{rules}
+use Rattle.std.proofs.Common.{arith}
+use Rattle.book.proofs.SpareLaws.{blank_none, blank_more}
 use Rattle.book.proofs.checks.blank.Goals as goal
-
-pub returns : goal.returns
-returns c = let l = c.loop-t in
-    let a = c.args in
-    let e : l.t ≡ a.count = omega arith in
-    l.invariant.1 ∙ ap (blank a.book.now a.from) e
 
 pub loop-t-init : goal.loop-t-init
 loop-t-init c = (omega arith, blank_none _ _)

@@ -1,12 +1,8 @@
 -- The loop's invariant: the bits of t bytes together are none exactly where all of the bytes are zero.
 -- A turn joins the bits of the next byte. Assumes nothing.
-use Prim.Native.Nat.{◌-◌, ◌≤◌}
-use mathlib.Core.Path.{◌≡◌, ap, ◌∙◌}
-use native.Mathlib.Omega.{arith}
-use lib.Dec.{eqb}
+use Rattle.std.specs.Prelude.{eqb}
+use Rattle.std.proofs.Common.{◌-◌, ◌≤◌, ◌≡◌}
 use Rattle.book.specs.Spare.{blank}
-use Rattle.book.specs.SpareLaws.{blank_none, blank_more}
-use borrow.Author.Rules.{rules}
 use Rattle.book.proofs.checks.blank.Given as goal
 
 abbrev pub invariant-loop-t : goal.invariant-loop-t

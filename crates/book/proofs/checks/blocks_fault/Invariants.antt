@@ -1,15 +1,8 @@
 -- The loop's invariant: what is left of the list of the blocks' checks gives the answer of the whole list.
 -- A block with a fault ends it there, one without takes it one block on. Assumes nothing.
-use Prim.Native.Nat.{ℕ, ◌-◌, ◌/◌, ◌≤◌}
-use mathlib.Core.Path.{◌≡◌, refl, sym, ap, ◌∙◌}
-use native.Mathlib.Omega.{arith}
-use native.Mathlib.Nat.{sub-zero}
-use lib.ListN.{length}
-use borrow.Author.Tests.{not-true, not-false}
+use Rattle.std.proofs.Common.{◌-◌, ◌≤◌, ◌≡◌}
 use Rattle.book.specs.Fault.{fault_of}
 use Rattle.book.specs.Read.{each_block, block_checks}
-use Rattle.book.specs.ReadLaws.{whole_blocks, bad_number, bad_check, good_block}
-use borrow.Author.Rules.{rules}
 use Rattle.book.proofs.checks.blocks_fault.Given as goal
 
 abbrev pub invariant-loop-k : goal.invariant-loop-k

@@ -1,38 +1,27 @@
 -- The checks are made in the order of the definition's list, 13 by the form and the spare bytes alone.
 -- Each return rewrites the list with the tests that led there. Assumes nothing.
-use mathlib.Core.Path.{◌≡◌, refl, sym, ap, ◌∙◌}
-use native.Mathlib.Omega.{arith}
-use borrow.Author.Tests.{le-leb, lt-leb, not-true, not-false}
+use Rattle.std.proofs.Common.{ℕ, ◌≡◌, List, get_or, Fits, w8, arith}
+use Rattle.std.proofs.lemmas.Grind.{common_steps}
 use Rattle.book.specs.Fault.{fault_of}
 use Rattle.book.specs.Layout.{edition_one}
 use Rattle.book.specs.Read.{content, body_checks}
-use Rattle.book.specs.SpareLaws.{made_checks, body_checks_lem}
-use Rattle.book.specs.declared.checks.Fault.TheVariants.{At}
-use borrow.Author.Rules.{rules}
+use Rattle.book.specs.Known.{Sealed, Headed}
+use Rattle.book.proofs.SpareLaws.{made_checks, body_checks_lem}
 use Rattle.book.proofs.checks.body_fault.Goals as goal
-use Rattle.book.proofs.checks.body_fault.Goals.{After-shared_slice_known-1}
 
 -- the list of checks as they are made here
-listed : (c : After-shared_slice_known-1)
-    → let a = c.args in
-    fault_of (body_checks edition_one (content edition_one a.book.now) a.book.now a.room)
-    ≡ fault_of (made_checks a.book.now a.n a.room)
-listed c =
-    let a = c.args in
-    body_checks_lem a.book.now a.n a.room (λ i. omega (arith, c.shared_slice_known-1.given i)) c.requires.0 c.requires.1
+listed : (b : List ℕ) (n room : ℕ) → ((i : ℕ) → Fits w8 (get_or b i 0)) → Sealed b × Headed b n
+    → fault_of (body_checks edition_one (content edition_one b) b room) ≡ fault_of (made_checks b n room)
+listed b n room bytes h = body_checks_lem b n room (λ i. omega (arith, bytes i)) h.0 h.1
 
 pub returns-then-not-fields_fit : goal.returns-then-not-fields_fit
-returns-then-not-fields_fit c = let fit = sym c.fields_fit.ensures ∙ not-true _ c.if-not-fields_fit.true-raw in
-    sym (listed c.before.before ∙ rw fit refl)
+returns-then-not-fields_fit c = rw (listed _ _ _ c.type_inv.book c.requires) (grind (arith, common_steps))
 
 pub returns-then-row-n : goal.returns-then-row-n
-returns-then-row-n c = let fit = sym c.fields_fit.ensures ∙ not-false _ c.if-not-fields_fit.false-raw in
-    sym (listed c.before.before.before.before ∙ rw (fit, lt-leb _ _ (rw c.lowest_bad-row.ensures at c.if-row-n.true)) (ap (At 3) (sym c.lowest_bad-row.ensures)))
+returns-then-row-n c = rw (listed _ _ _ c.type_inv.book c.requires) (grind (arith, common_steps))
 
 pub returns-then-room-n : goal.returns-then-room-n
-returns-then-room-n c = let fit = sym c.fields_fit.ensures ∙ not-false _ c.if-not-fields_fit.false-raw in
-    sym (listed c.before.before.before.before.before ∙ rw (fit, le-leb _ _ (rw c.lowest_bad-row.ensures at c.if-row-n.false), lt-leb _ _ c.if-room-n.true) refl)
+returns-then-room-n c = rw (listed _ _ _ c.type_inv.book c.requires) (grind (arith, common_steps))
 
 pub returns : goal.returns
-returns c = let fit = sym c.fields_fit.ensures ∙ not-false _ c.if-not-fields_fit.false-raw in
-    sym (listed c.before.before.before.before.before ∙ rw (fit, le-leb _ _ (rw c.lowest_bad-row.ensures at c.if-row-n.false), le-leb _ _ c.if-room-n.false) refl)
+returns c = rw (listed _ _ _ c.type_inv.book c.requires) (grind (arith, common_steps))

@@ -1,10 +1,8 @@
 -- The two bytes at the start of the block, as one number, are compared with k.
 -- That is the definition's test. Assumes nothing.
-use mathlib.Core.Path.{refl}
 use Rattle.book.specs.Read.{numbered}
-use borrow.Author.Rules.{rules}
 use Rattle.book.proofs.checks.numbered.Goals as goal
 
 pub returns : goal.returns
 unfolding numbered
-returns c = rw c.read_u16.ensures.0 refl
+returns c = rw c.read_u16.ensures.0

@@ -1,15 +1,10 @@
 -- The three words of the row are those where the table's words stand, and rows' own function reads them as a row.
 -- So it reads them as the row of the table. Assumes nothing.
-use Prim.Native.Nat.{ℕ, ◌+◌, ◌*◌}
-use mathlib.Core.Path.{◌≡◌, refl, ◌∙◌}
-use native.Mathlib.Omega.{arith}
-use native.Mathlib.Nat.{add-zero}
-use lib.ListN.{get_or}
+use Rattle.std.proofs.Common.{ℕ, ◌+◌, ◌*◌, ◌≡◌, ◌∙◌, arith, get_or, add-zero}
 use Rattle.book.specs.ByteLaws.{run_at}
 use Rattle.book.specs.Layout.{edition_one}
 use Rattle.book.specs.Read.{word_at}
-use Rattle.book.specs.ReadLaws.{table_at, read_ext}
-use borrow.Author.Rules.{rules}
+use Rattle.book.proofs.ReadLaws.{table_at, read_ext}
 use Rattle.book.proofs.checks.row_in.Goals as goal
 
 pub returns : goal.returns
@@ -28,5 +23,4 @@ returns c = let b = c.args.book.now in
       run_at (3 * i) 3 f 1 (omega arith),
       run_at (3 * i) 3 f 2 (omega arith),
       add-zero (3 * i),
-    )
-    refl)
+    ))

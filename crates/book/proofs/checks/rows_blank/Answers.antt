@@ -1,13 +1,9 @@
 -- The spare bytes of a row block are those behind its words.
 -- So they are one run, and it is tested as such. Assumes nothing.
-use Prim.Native.Nat.{ℕ}
-use mathlib.Core.Path.{sym, ap, ◌∙◌}
-use mathlib.Core.Bool.{Bool}
-use native.Mathlib.Numerals.{add-one}
+use Rattle.std.proofs.Common.{ℕ, sym, ap, ◌∙◌, Bool, add-one}
 use Rattle.book.specs.Layout.{edition_one}
 use Rattle.book.specs.Spare.{zero_block}
-use Rattle.book.specs.SpareLaws.{rows_blank}
-use borrow.Author.Rules.{rules}
+use Rattle.book.proofs.SpareLaws.{rows_blank}
 use Rattle.book.proofs.checks.rows_blank.Goals as goal
 
 pub returns : goal.returns

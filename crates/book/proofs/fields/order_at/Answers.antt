@@ -1,16 +1,8 @@
--- The goals that are not found.
-use Prim.Native.Nat.{ℕ, ◌+◌, ◌-◌, ◌≤◌}
-use mathlib.Core.Path.{◌≡◌, refl, sym, ◌∙◌}
-use native.Mathlib.Omega.{arith}
-use lib.ListN.{get_or}
+use Rattle.std.proofs.Common.{ℕ, ◌+◌, ◌≡◌, sym, ◌∙◌, arith, get_or}
 use Rattle.book.specs.Bytes.{run}
 use Rattle.book.specs.ByteLaws.{run_at, run_length}
-use Rattle.book.specs.OverLaws.{over, over_set, over_whole}
-use borrow.Author.Rules.{rules}
+use Rattle.book.specs.OverLaws.{over_set, over_whole}
 use Rattle.book.proofs.fields.order_at.Goals as goal
-
-pub loop-i-init : goal.loop-i-init
-loop-i-init c = (omega arith, refl)
 
 pub loop-i-preserved : goal.loop-i-preserved
 loop-i-preserved c = let f : ℕ → ℕ = λ j. get_or c.args.book.now j 0 in

@@ -1,13 +1,8 @@
 -- The loop's invariant: the first i entries are the bytes from 6 on, and the others are as they were made.
 -- A turn stores the next. Assumes nothing.
-use Prim.Native.Nat.{ℕ, ◌+◌, ◌-◌, ◌≤◌}
-use mathlib.Core.Path.{◌≡◌, refl, sym, ◌∙◌}
-use native.Mathlib.Omega.{arith}
-use lib.ListN.{get_or}
+use Rattle.std.proofs.Common.{◌-◌, ◌≤◌, ◌≡◌, get_or}
 use Rattle.book.specs.Bytes.{run}
-use Rattle.book.specs.ByteLaws.{run_at, run_length}
-use Rattle.book.specs.OverLaws.{over, over_set, over_whole}
-use borrow.Author.Rules.{rules}
+use Rattle.book.specs.OverLaws.{over}
 use Rattle.book.proofs.fields.order_at.Given as goal
 
 abbrev pub invariant-loop-i : goal.invariant-loop-i

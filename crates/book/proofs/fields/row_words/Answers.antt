@@ -1,13 +1,10 @@
 -- A block has 42 rows, so the three words of a row stand side by side.
 -- Each is the word of the table that the definition reads there. Assumes nothing.
-use Prim.Native.Nat.{ℕ, ◌+◌, ◌*◌, ◌/◌, ◌%◌}
-use mathlib.Core.Path.{◌∙◌}
-use native.Mathlib.Omega.{arith}
+use Rattle.std.proofs.Common.{ℕ, ◌+◌, ◌*◌, ◌/◌, ◌%◌, ◌∙◌, arith}
 use Rattle.book.specs.ByteLaws.{run_three}
 use Rattle.book.specs.Layout.{edition_one}
 use Rattle.book.specs.Read.{word_at}
-use Rattle.book.specs.ReadLaws.{word_row}
-use borrow.Author.Rules.{rules}
+use Rattle.book.proofs.ReadLaws.{word_row}
 use Rattle.book.proofs.fields.row_words.Goals as goal
 
 pub returns : goal.returns

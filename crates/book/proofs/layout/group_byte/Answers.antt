@@ -1,16 +1,13 @@
 -- The first 8 bytes of the number that the words make are those of the low word, and those behind them are those of the high word.
 -- So byte j is read from one word or the other. Assumes nothing.
-use Prim.Native.Nat.{ℕ, ◌+◌, ◌-◌}
-use mathlib.Core.Path.{◌≡◌, sym, ap, ◌∙◌}
-use native.Mathlib.Omega.{arith}
+use Rattle.std.proofs.Common.{ℕ, ◌+◌, ◌-◌, ◌≡◌, sym, ap, ◌∙◌, arith, rules}
 use Rattle.sets.specs.Sets.{word}
 use Rattle.book.specs.Bytes.{byte}
 use Rattle.book.specs.ByteLaws.{byte_low, byte_high}
-use borrow.Author.Rules.{rules}
 use Rattle.book.proofs.layout.group_byte.Goals as goal
 
 pub returns-then-j-lt8 : goal.returns-then-j-lt8
-returns-then-j-lt8 c = let a = c.args in c.byte_of.ensures ∙ sym (byte_low 8 a.group.high a.group.low a.j (omega arith))
+returns-then-j-lt8 c = let a = c.args in c.byte_of.ensures ∙ sym (byte_low 8 a.group.high a.group.low a.j c.if-j-lt8.true)
 
 pub returns : goal.returns
 returns c = let a = c.args in

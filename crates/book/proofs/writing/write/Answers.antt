@@ -3,7 +3,7 @@
 use Rattle.std.proofs.Common.{sym, ◌∙◌, arith}
 use Rattle.rows.proofs.TableLaws.{row_count_most, passed_valid}
 use Rattle.book.specs.FormLaws.{formed_kind}
-use Rattle.book.specs.WriteLaws.{write_table, write_form, write_room, write_done}
+use Rattle.book.proofs.WriteLaws.{write_table, write_form, write_room, write_done}
 use Rattle.book.proofs.writing.write.Goals as goal
 
 pub returns-then-table-ne-DONE : goal.returns-then-table-ne-DONE

@@ -16,6 +16,7 @@ use Rattle.book.specs.Fault.{fault_of}
 use Rattle.book.specs.FaultLaws.{judge_told, fault_first, fault_next}
 use Rattle.book.specs.Form.{formed}
 use Rattle.book.specs.Layout.{Edition, edition_one, longest, blocks}
+use Rattle.book.specs.Known.{Sealed, Headed}
 use Rattle.book.specs.Read.{place, word_at, verdict_of, content, whole, numbered, checked, each_block, spelled, lowest_bad, block_checks, head_checks, body_checks, read_checks, refused, taken, read_of, read_into}
 use Rattle.book.specs.declared.checks.Fault.TheVariants.{At, Clear}
 
@@ -35,12 +36,6 @@ module _ (b : List ℕ) (n k : ℕ) (l : k < n) where
   good_block p q = next ∙ rw (p, q, add-one k) refl
 
 -- ---- what the checks leave known
-
-pub record Sealed (b : List ℕ) : Type 0 where
-  pub some : 512 ≤ length b
-  pub most : length b ≤ 2048
-  pub whole : length b ≡ 512 * (length b / 512)
-  pub blocks : (k : ℕ) → k < length b / 512 → (numbered b k ≡ true) × (checked b k ≡ true)
 
 each_block_lem : (b : List ℕ) (k d : ℕ) → Passed (each_block b k d) → (j : ℕ) → k ≤ j → j < k + d → (numbered b j ≡ true) × (checked b j ≡ true)
 each_block_lem b k zero p j h l = absurd (omega arith)
@@ -69,22 +64,13 @@ sealed_blocks b p =
       blocks = λ k l. each_block_lem b 0 (length b / 512) p.1 k zero-le (omega arith);
     }
 
--- the head of a book of n rows
-pub record Headed (b : List ℕ) (n : ℕ) : Type 0 where
-  pub edition : get_or b 2 0 ≡ 1
-  pub some_cores_lem : 1 ≤ get_or b 3 0
-  pub most_cores : get_or b 3 0 ≤ 32
-  pub count : n ≡ get_or b 4 0
-  pub few : n ≤ 96
-  pub size : length b ≡ 512 * blocks edition_one n
-
 pub headed : (b : List ℕ) → Passed (head_checks edition_one (content edition_one b) b) → Headed b (get_or b 4 0)
 unfolding head_checks content
 headed b p =
     let m = get_or b 3 0 in
     record {
       edition = eqb-true _ 1 p.0;
-      some_cores_lem = leb-true 1 m (and_left (leb 1 m) (leb m 32) p.1.0);
+      some_cores = leb-true 1 m (and_left (leb 1 m) (leb m 32) p.1.0);
       most_cores = leb-true m 32 (and_right (leb 1 m) (leb m 32) p.1.0);
       count = refl;
       few = leb-true _ 96 p.1.1.0;

@@ -24,7 +24,8 @@ use Rattle.book.specs.Form.{formed}
 use Rattle.book.specs.Layout.{Edition, edition_one, longest, blocks, head, inner, opened, sealed, at}
 use Rattle.book.specs.LayoutLaws.{Fit, one_fits, at_inner, head_order, head_group, head_more}
 use Rattle.book.specs.Read.{of_block, place, word_at, group_of, verdict_of, content, numbered, checked, spelled, fields_check, lowest_bad, body_checks}
-use Rattle.book.specs.ReadLaws.{Sealed, Headed, content_count}
+use Rattle.book.specs.Known.{Sealed, Headed}
+use Rattle.book.proofs.ReadLaws.{content_count}
 use Rattle.book.specs.Spare.{spare, zero_at, zero_block, zeros, blank}
 
 module _ (e : Edition) (f : Fit e) (b : List ℕ) (bytes : (i : ℕ) → get_or b i 0 < 256) (edition : get_or b 2 0 ≡ e.number) where

@@ -23,11 +23,11 @@ use Rattle.book.specs.FormLaws.{formed_group}
 use Rattle.book.specs.Layout.{edition_one, Content, blocks, opened, sealed, at, book_of}
 use Rattle.book.specs.LayoutLaws.{one_fits, book_length, sealed_check}
 use Rattle.book.specs.Write.{content_of, book_checks, write_checks, write_of, write_into}
-use Rattle.book.specs.WriteLaws.{write_done}
+use Rattle.book.proofs.WriteLaws.{write_done}
 use Rattle.book.specs.Read.{of_block, content, verdict_of, checked, each_block, block_checks, head_checks, body_checks, spelled, read_checks, refused, taken, read_of, read_into}
 use Rattle.book.specs.Fault.{fault_of}
 use Rattle.book.specs.FaultLaws.{passed_clear}
-use Rattle.book.specs.ReadLaws.{content_count, table_length, lowest_bad_lem, Readable, readable, read_taken, into_taken}
+use Rattle.book.proofs.ReadLaws.{content_count, table_length, lowest_bad_lem, Readable, readable, read_taken, into_taken}
 use Rattle.book.specs.BackLaws.{Legal, content_back, checks_back}
 use Rattle.book.specs.declared.checks.Fault.TheVariants.{Clear}
 use Rattle.book.specs.declared.verdicts.Verdict.{Verdict}
@@ -148,7 +148,7 @@ writable_legal words m v room t w =
     let valid = passed_valid words m w.fair in
     let whole : length words % 3 ≡ 0 = omega (arith, valid.whole) in
     record {
-      some_cores_lem = valid.some_cores_lem;
+      some_cores = valid.some_cores;
       most_cores = valid.most_cores;
       few = valid.most_rows;
       order = t.order;
@@ -233,7 +233,7 @@ module _ (b : List ℕ) (room : ℕ) (r : Readable b room) where
       let whole = table_length edition_one b in
       let rows : n ≡ get_or b 4 0 = omega (arith, whole) in
       let sized = and_in (eqb (length words % 3) 0) (leb n 96) (eq-eqb (length words % 3) 0 (omega (arith, whole))) (le-leb n 96 (omega (arith, r.headed.few))) in
-      let cored = and_in (leb 1 m) (leb m 32) (le-leb 1 m r.headed.some_cores_lem) (le-leb m 32 r.headed.most_cores) in
+      let cored = and_in (leb 1 m) (leb m 32) (le-leb 1 m r.headed.some_cores) (le-leb m 32 r.headed.most_cores) in
       ap (λ (c : Checked). c.number) (fault_none words m sized cored (omega (arith, rows, r.rows, lowest_bad_lem b n rows)))
 
 -- what reading answered: the table at the start of the words, and the rest
@@ -277,7 +277,7 @@ module _ (b into : List ℕ) (h : (read_of b (length into)).number ≡ done) whe
 -- what reading hands over with 0: the core count, and the table at the start of the words
 pub record Handed (b : List ℕ) (room : ℕ) (words : List ℕ) (r : BookRead) : Type 0 where
   pub read : (read_of b room).number ≡ done
-  pub some_cores_lem : 1 ≤ r.m
+  pub some_cores : 1 ≤ r.m
   pub most_cores : r.m ≤ 32
   pub cores : r.m ≡ (content edition_one b).m
   pub fits : 3 * r.n ≤ room
@@ -296,7 +296,7 @@ handed b into words r e w d =
     rw (w, e)
     (record {
       read = h;
-      some_cores_lem = rw cores g.headed.some_cores_lem;
+      some_cores = rw cores g.headed.some_cores;
       most_cores = rw cores g.headed.most_cores;
       cores = cores;
       fits = rw rows g.space;

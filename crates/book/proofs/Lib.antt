@@ -1,0 +1,4 @@
+pub mod ReadLaws
+pub mod SpareLaws
+pub mod BookLaws
+pub mod WriteLaws
