@@ -17,6 +17,7 @@ pub(crate) const UNKNOWN: u32 = 0xffff_fffe;
 pub(crate) const LATER: u32 = 0xffff_ffff;
 
 // Whether row k passes with the other rows left above it. A test that makes no sum ends where the limit is reached.
+#[tactic(auto, using(rows::proofs::TableLaws::row_count_most))]
 pub(crate) fn passes(words: &[u32], terms: Terms, left: Set, k: usize, sums: &mut [u32; 96]) -> bool
     requires { (k < row_count words.now) × (has left k ≡ true) × Tallied words.now left sums.old }
     ensures value { result ≡ test_passes (board_of words.now terms) (has (without_row left k)) k }
@@ -36,6 +37,7 @@ pub(crate) fn passes(words: &[u32], terms: Terms, left: Set, k: usize, sums: &mu
 }
 
 // The rows left without row k, which is placed. What it takes from each of them comes off their sums.
+#[tactic(auto, using(rows::proofs::TableLaws::row_count_most))]
 pub(crate) fn take(words: &[u32], n: usize, left: Set, k: usize, sums: &mut [u32; 96]) -> Set
     requires { (n ≡ row_count words.now) × (k < n) × (has left k ≡ true) × Tallied words.now left sums.old }
     ensures value { result ≡ without_row left k }

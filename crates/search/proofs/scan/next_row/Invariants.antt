@@ -1,10 +1,7 @@
 -- The invariant: the first row left from the row at hand on is the first from the cursor on.
 -- A row that is left ends the scan there, one that is not takes it one row on. Assumes nothing.
-use Prim.Native.Nat.{◌-◌}
-use mathlib.Core.Path.{◌≡◌, refl, sym, ◌∙◌}
-use borrow.Author.Rules.{rules}
+use Rattle.std.proofs.Common.{◌-◌, ◌≡◌}
 use Rattle.sets.specs.Sums.{first}
-use Rattle.sets.specs.SumLaws.{first_taken, first_next, first_end}
 use Rattle.sets.specs.Sets.{has}
 use Rattle.search.proofs.scan.next_row.Given as goal
 

@@ -1,10 +1,7 @@
 -- The invariant: the entries from the one at hand up to `to` are blank exactly when those from `from` are.
 -- An entry that is not 255 ends the scan, a 255 takes it one entry on. Assumes nothing.
-use Prim.Native.Nat.{◌-◌}
-use mathlib.Core.Path.{◌≡◌, refl, sym, ◌∙◌}
-use borrow.Author.Rules.{rules}
+use Rattle.std.proofs.Common.{◌-◌, ◌≡◌}
 use Rattle.search.specs.State.{blank_from}
-use Rattle.search.specs.StateLaws.{blank_next, blank_fails, blank_end}
 use Rattle.search.proofs.state.is_blank.Given as goal
 
 abbrev pub invariant-loop-i : goal.invariant-loop-i

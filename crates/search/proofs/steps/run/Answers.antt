@@ -1,55 +1,55 @@
--- The goals that are not found.
-use Prim.Native.Nat.{◌-◌, ◌<◌, ◌≤◌}
-use mathlib.Core.Logic.{⊎_elim}
-use native.Mathlib.Omega.{arith}
-use borrow.Author.Rules.{rules}
-use borrow.Author.Tests.{ltb-true, ltb-false}
-use Rattle.rows.specs.Board.{board_of}
+use Rattle.std.proofs.Common.{◌≤◌, arith, rules}
 use Rattle.rows.proofs.TableLaws.{row_count_most}
-use Rattle.search.specs.Tally.{Tallied}
 use Rattle.search.specs.TallyLaws.{tally_fresh}
-use Rattle.search.specs.StepLaws.{Stands, stands_start, stands_placed, stands_left, stands_probe, run_unfinished, run_blocked, run_done}
+use Rattle.search.specs.StepLaws.{stands_start, stands_placed, stands_left, stands_probe, run_unfinished, run_blocked, run_done}
 use Rattle.search.proofs.steps.run.Goals as goal
-use Rattle.search.proofs.steps.run.Goals.{Then-tests-quota}
-
--- a turn has some of the quota left
-some_left : (c : Then-tests-quota) → c.loop-k.tests < c.args.quota
-some_left c = ltb-true c.loop-k.tests c.args.quota c.if-tests-quota.true-raw
+use Rattle.search.proofs.steps.run.Goals.{then-loop-k-test+else-tests-quota, else-loop-k-test}
 
 pub loop-k-init : goal.loop-k-init
-loop-k-init c = let n = c.requires.0.0 in (
-  stands_start (row_count_most _) (search rules) (rw n at c.requires.0.1) (rw n at c.requires.1) (rw n at c.next_row-k.ensures),
-  tally_fresh _ _ _ (omega arith),
-)
+loop-k-init c =
+    let n = c.requires.n_value.0 in
+    record {
+      stands = stands_start (row_count_most _) (search rules) (rw n at c.requires.n_value.1) (rw n at c.requires.left_value)
+          (rw n at c.next_row-k.ensures);
+      tallied = tally_fresh _ _ _ (omega arith);
+    }
 
-pub probe-stand-requires : goal.probe-stand-requires
-probe-stand-requires c = let n = c.requires.0.0 in
-    let some = rw n at c.loop-k-test.true in
-    ((n, rw n some, rw n (stands_placed c.loop-k.invariant.0 some)), (stands_left c.loop-k.invariant.0 (row_count_most _) some, c.loop-k.invariant.1))
+pub probe-stand-requires-clause-n_value : goal.probe-stand-requires-clause-n_value
+probe-stand-requires-clause-n_value c =
+    let n = c.requires.n_value.0 in
+    (n, c.loop-k-test.true, rw n (stands_placed c.loop-k.invariant.stands (rw n at c.loop-k-test.true)))
+
+pub probe-stand-requires-clause-k_value : goal.probe-stand-requires-clause-k_value
+probe-stand-requires-clause-k_value c =
+    let inv = c.loop-k.invariant in
+    let some = rw c.requires.n_value.0 at c.loop-k-test.true in
+    (stands_left inv.stands (row_count_most _) some, inv.tallied)
 
 pub loop-k-preserved : goal.loop-k-preserved
-loop-k-preserved c = let n = c.requires.0.0 in (
-  stands_probe c.loop-k.invariant.0 (row_count_most _) (rw n at c.loop-k-test.true) (some_left c.before.before.before.before.before)
-      c.probe-stand.ensures.0 (rw n at c.next_row-k-in-loop-k.ensures),
-  c.probe-stand.ensures.1,
-)
+loop-k-preserved c =
+    let n = c.requires.n_value.0 in
+    record {
+      stands = stands_probe c.loop-k.invariant.stands (row_count_most _) (rw n at c.loop-k-test.true) c.if-tests-quota.true
+          c.probe-stand.ensures.value (rw n at c.next_row-k-in-loop-k.ensures);
+      tallied = c.probe-stand.ensures.tallied;
+    }
 
 pub returns-then-k-n : goal.returns-then-k-n
-returns-then-k-n c = let spent : c.args.quota ≤ c.loop-k.tests =
-    ⊎_elim (λ w. ltb-false c.loop-k.tests c.args.quota w.1.left) (λ w. absurd (omega (arith, w.left))) c.loop-k-test.branch
+returns-then-k-n c =
+    let spent : c.args.quota ≤ c.loop-k.tests =
+    elim c.loop-k-test.branch [
+      | then-loop-k-test+else-tests-quota w ↦ omega arith
+      | else-loop-k-test w ↦ absurd (omega arith)
+    ]
     in
-    run_unfinished c.loop-k.invariant.0 (rw c.requires.0.0 at c.if-k-n.true) spent
+    run_unfinished c.loop-k.invariant.stands (rw c.requires.n_value.0 at c.if-k-n.true) spent
 
 pub returns-then-end-n : goal.returns-then-end-n
-returns-then-end-n c = let n = c.requires.0.0 in
-    run_blocked c.loop-k.invariant.0 (rw n at c.if-k-n.false) (rw n at c.if-end-n.true)
+returns-then-end-n c =
+    let n = c.requires.n_value.0 in
+    run_blocked c.loop-k.invariant.stands (rw n at c.if-k-n.false) (rw n at c.if-end-n.true)
 
 pub returns : goal.returns
-returns c = let n = c.requires.0.0 in
-    run_done c.loop-k.invariant.0 (rw n at c.if-k-n.false) (rw n at c.if-end-n.false)
-
-pub overflow_add-tests : goal.overflow_add-tests
-overflow_add-tests c = omega (arith, some_left c.before.before)
-
-pub loop-k-smaller : goal.loop-k-smaller
-loop-k-smaller c = omega (arith, some_left c.before.before.before.before.before)
+returns c =
+    let n = c.requires.n_value.0 in
+    run_done c.loop-k.invariant.stands (rw n at c.if-k-n.false) (rw n at c.if-end-n.false)
