@@ -1,4 +1,1 @@
 pub mod Audit
-pub mod OrderLaws
-pub mod GroupLaws
-pub mod AuditLaws

@@ -25,7 +25,7 @@ use Rattle.search.specs.OrderLaws.{times_append}
 use Rattle.search.specs.DemandLaws.{rows_count}
 use Rattle.search.specs.StateLaws.{has_unplaced}
 use Rattle.search.specs.Answers.{placed_of, found_of, written_of, Demanded}
-use Rattle.search.specs.CallLaws.{placed_most, found_done, found_blocked, written_same, written_order, found_demanded}
+use Rattle.search.proofs.CallLaws.{placed_most, found_done, found_blocked, written_same, written_order, found_demanded}
 use Rattle.search.specs.declared.call.Found.{Found}
 use Rattle.book.specs.ByteLaws.{all_make}
 use Rattle.book.specs.Form.{among, entry_fits, order_fits, group_fits, formed}

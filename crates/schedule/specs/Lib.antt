@@ -1,14 +1,1 @@
 pub mod Schedule
-pub mod Lives
-pub mod MoreSums
-pub mod WorkBounds
-pub mod CarryIn
-pub mod Window
-pub mod Sound
-pub mod Exists
-pub mod Jobs
-pub mod LevelLaws
-pub mod Safety
-pub mod Finer
-pub mod Margin
-pub mod Limits

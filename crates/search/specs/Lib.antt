@@ -15,5 +15,4 @@ pub mod TallyLaws
 pub mod StateLaws
 pub mod LevelLaws
 pub mod EndedLaws
-pub mod CallLaws
 pub mod StepLaws

@@ -6,7 +6,7 @@ use lib.Seq.{length-take-le}
 use borrow.Author.Rules.{rules}
 use Rattle.book.specs.declared.reading.BookRead.{BookRead}
 use Rattle.book.proofs.BookLaws.{Handed, handed, lent}
-use Rattle.host.specs.HostLaws.{host_refused, host_short, handed_fits, handed_searched}
+use Rattle.host.proofs.HostLaws.{host_refused, host_short, handed_fits, handed_searched}
 use Rattle.host.proofs.heralinda_search.Goals as goal
 use Rattle.host.proofs.heralinda_search.Goals.{Else-read-ne-DONE}
 

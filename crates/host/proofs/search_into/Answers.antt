@@ -16,7 +16,7 @@ use Rattle.search.specs.declared.call.Found.{Found}
 use Rattle.book.specs.Write.{write_into}
 use Rattle.book.specs.declared.verdicts.Verdict.{Verdict}
 use Rattle.host.specs.Host.{verdict_by}
-use Rattle.host.specs.HostLaws.{searched_written}
+use Rattle.host.proofs.HostLaws.{searched_written}
 use Rattle.host.proofs.search_into.Goals as goal
 
 verdict_is : (words : List ℕ) (m kind : ℕ) (order : List ℕ) (r : Found) → r ≡ found_of words (limited m) 96 → order ≡ written_of words (limited m) (replicate 96 255)

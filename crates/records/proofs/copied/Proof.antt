@@ -47,7 +47,7 @@ use denote.Exit.{yes}
 use Rattle.records.specs.declared.Task.{Task}
 use Rattle.records.specs.declared.Flat.{Flat}
 use Rattle.records.specs.Records.{no_task, no_rows, add, add_all}
-use Rattle.records.specs.RecordsLaws.{add_next, add_end}
+use Rattle.records.proofs.RecordsLaws.{add_next, add_end}
 use Rattle.records.specs.contracts.Task as T
 use Rattle.records.proofs.Task.TheLaws as T'
 use Rattle.records.specs.contracts.Flat as F

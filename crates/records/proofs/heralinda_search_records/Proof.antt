@@ -44,7 +44,7 @@ use Rattle.search.proofs.call.Found.TheLaws as G'
 use Rattle.records.specs.declared.Task.{Task}
 use Rattle.records.specs.declared.Flat.{Flat}
 use Rattle.records.specs.Records.{flat, copy_of, found_in, written_in}
-use Rattle.records.specs.RecordsLaws.{found_copy, written_copy}
+use Rattle.records.proofs.RecordsLaws.{found_copy, written_copy}
 use Rattle.records.specs.contracts.Task as T
 use Rattle.records.specs.contracts.Flat as F
 use Rattle.records.proofs.Flat.TheLaws as F'

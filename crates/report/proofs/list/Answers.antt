@@ -2,7 +2,7 @@
 -- Either way the text is put from the output's start on. Assumes nothing.
 use Rattle.std.proofs.Common.{sym, ◌∙◌, arith, zero-add, length-take-le}
 use Rattle.book.proofs.BookLaws.{Handed, handed, lent}
-use Rattle.report.specs.ListingLaws.{listing_refused, listing_read}
+use Rattle.report.proofs.ListingLaws.{listing_refused, listing_read}
 use Rattle.report.proofs.list.Goals as goal
 use Rattle.report.proofs.list.Goals.{Else-read-ne-DONE}
 

@@ -4,8 +4,8 @@ use Rattle.std.proofs.Common.{◌≡◌, ℕ, ◌≤◌, List, sym, arith, lengt
 use Rattle.rows.proofs.TableLaws.{row_count_most}
 use Rattle.report.specs.TextLaws.{Room, room_first, room_rest, puts_then}
 use Rattle.report.specs.Listing.{listed}
-use Rattle.report.specs.ListingLaws.{listed_order, listed_group}
-use Rattle.report.specs.SizeLaws.{listed_most}
+use Rattle.report.proofs.ListingLaws.{listed_order, listed_group}
+use Rattle.report.proofs.SizeLaws.{listed_most}
 use Rattle.report.proofs.put_table.Goals as goal
 
 room : (words : List ℕ) (m : ℕ) {text : List ℕ} → m ≤ 32 → listed words m ≡ text → Room 0 text

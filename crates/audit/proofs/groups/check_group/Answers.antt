@@ -1,7 +1,7 @@
 -- Each answer is the law of the check that decides it: those of the table, then the group's form, then whether a member passes.
 -- The row found is below n exactly where one does. Assumes nothing.
 use Rattle.std.proofs.Common.{sym, ◌∙◌}
-use Rattle.audit.specs.GroupLaws.{group_refused, group_malformed, group_member, group_done}
+use Rattle.audit.proofs.GroupLaws.{group_refused, group_malformed, group_member, group_done}
 use Rattle.audit.proofs.groups.check_group.Goals as goal
 
 pub returns-then-checked-ne0 : goal.returns-then-checked-ne0

@@ -4,7 +4,7 @@ use Rattle.rows.specs.Table.{row_count}
 use Rattle.rows.specs.Board.{board_of}
 use Rattle.rows.proofs.TableLaws.{row_count_most}
 use Rattle.test.specs.Test.{passes}
-use Rattle.audit.specs.OrderLaws.{order_entries, left_all, left_level, test_above, used_above, lowest_up, lowest_here, levels_done, levels_fails}
+use Rattle.audit.proofs.OrderLaws.{order_entries, left_all, left_level, test_above, used_above, lowest_up, lowest_here, levels_done, levels_fails}
 use Rattle.audit.proofs.orders.check_levels.Goals as goal
 
 pub loop-level-init : goal.loop-level-init

@@ -2,7 +2,7 @@
 -- The levels are scanned only of an order, which is what that scan requires. Assumes nothing.
 use Rattle.std.proofs.Common.{sym, ◌∙◌}
 use Rattle.rows.proofs.TableLaws.{row_count_most}
-use Rattle.audit.specs.OrderLaws.{order_refused, order_malformed, order_levels}
+use Rattle.audit.proofs.OrderLaws.{order_refused, order_malformed, order_levels}
 use Rattle.audit.proofs.orders.check_order.Goals as goal
 
 pub returns-then-checked-ne0 : goal.returns-then-checked-ne0

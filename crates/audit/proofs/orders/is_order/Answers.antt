@@ -3,7 +3,7 @@ use Rattle.std.proofs.Common.{refl, sym, ◌∙◌, inr, arith, rules, eq-eqb, n
 use Rattle.sets.specs.BoolLaws.{and_fails}
 use Rattle.search.specs.State.{distinct}
 use Rattle.audit.specs.Audit.{is_order}
-use Rattle.audit.specs.OrderLaws.{left_all, distinct_fails, distinct_level, left_level}
+use Rattle.audit.proofs.OrderLaws.{left_all, distinct_fails, distinct_level, left_level}
 use Rattle.audit.proofs.orders.is_order.Goals as goal
 
 pub returns-then-order-n : goal.returns-then-order-n

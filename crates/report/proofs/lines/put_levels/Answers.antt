@@ -1,7 +1,7 @@
 use Rattle.std.proofs.Common.{length, arith}
 use Rattle.report.specs.TextLaws.{puts_nothing, puts_line, room_line}
 use Rattle.report.specs.Listing.{level_line}
-use Rattle.report.specs.ListingLaws.{level_line_lem, none_above, next_above}
+use Rattle.report.proofs.ListingLaws.{level_line_lem, none_above, next_above}
 use Rattle.report.proofs.lines.put_levels.Goals as goal
 
 pub loop-j-init : goal.loop-j-init

@@ -2,7 +2,7 @@
 -- For a row that is no member nothing is put. Assumes nothing.
 use Rattle.std.proofs.Common.{sym, ◌∙◌}
 use Rattle.report.specs.TextLaws.{puts_nothing}
-use Rattle.report.specs.ListingLaws.{member_line_lem, no_member}
+use Rattle.report.proofs.ListingLaws.{member_line_lem, no_member}
 use Rattle.report.proofs.lines.put_member.Goals as goal
 
 pub put_row-requires : goal.put_row-requires

@@ -10,7 +10,7 @@ use Rattle.rows.specs.declared.terms.Terms.{Terms}
 use Rattle.search.specs.Answers.{placed_of, found_of, written_of, Demanded}
 use Rattle.search.specs.StateLaws.{order_length, take_order}
 use Rattle.search.specs.EndedLaws.{Searches, ended_all}
-use Rattle.search.specs.CallLaws.{placed_most, found_refused, found_short, found_blocked, found_done, written_same, written_order, found_demanded}
+use Rattle.search.proofs.CallLaws.{placed_most, found_refused, found_short, found_blocked, found_done, written_same, written_order, found_demanded}
 use Rattle.search.specs.declared.call.Found.{Found}
 use Rattle.search.proofs.call.search.Goals as goal
 use Rattle.search.proofs.call.search.Goals.{After-search_rows-end}

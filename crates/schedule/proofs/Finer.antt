@@ -18,8 +18,8 @@ use Rattle.test.proofs.TestLaws.{interference_scale, passes_iff, passes_few}
 use Rattle.search.specs.Search.{rows_below}
 use Rattle.search.specs.Demand.{Order, among, Passing}
 use Rattle.schedule.specs.Schedule.{Safe, Proper, Enough}
-use Rattle.schedule.specs.LevelLaws.{among_count, order_row}
-use Rattle.schedule.specs.Safety.{order_safe}
+use Rattle.schedule.proofs.LevelLaws.{among_count, order_row}
+use Rattle.schedule.proofs.Safety.{order_safe}
 
 -- the same row in ticks of which f make one tick
 abbrev pub finer : ℕ → Row → Row

@@ -18,7 +18,7 @@ use Rattle.search.specs.Demand.{Order, Passing, Blocked, Truth}
 use Rattle.search.specs.Answers.{placed_of, found_of, written_of, Demanded}
 use Rattle.search.specs.FreeLaws.{free_in}
 use Rattle.search.specs.DemandLaws.{search_truth, rows_count, rows_below_lem}
-use Rattle.search.specs.CallLaws.{placed_most, found_short, found_blocked, found_done, found_demanded}
+use Rattle.search.proofs.CallLaws.{placed_most, found_short, found_blocked, found_done, found_demanded}
 use Rattle.search.specs.declared.call.Found.{Found}
 use Rattle.audit.specs.Audit.{is_order, lowest_failing, is_group, lowest_passing, order_checked_of, group_checked_of}
 use Rattle.sets.specs.SumLaws.{count_zero_iff}
@@ -27,8 +27,8 @@ use Rattle.rows.specs.Board.{Board, board_of}
 use Rattle.rows.specs.declared.terms.Terms.{Terms}
 use Rattle.test.proofs.TestLaws.{passes_antitone}
 use Rattle.test.specs.Test.{passes}
-use Rattle.audit.specs.OrderLaws.{is_order_iff, LowestFails, lowest_none_iff, lowest_some, lowest_exceeds, order_malformed, order_levels, levels_done, levels_fails}
-use Rattle.audit.specs.GroupLaws.{Group, is_group_iff, LowestPasses, lowest_passes, none_passes_iff, group_malformed, group_member, group_done}
+use Rattle.audit.proofs.OrderLaws.{is_order_iff, LowestFails, lowest_none_iff, lowest_some, lowest_exceeds, order_malformed, order_levels, levels_done, levels_fails}
+use Rattle.audit.proofs.GroupLaws.{Group, is_group_iff, LowestPasses, lowest_passes, none_passes_iff, group_malformed, group_member, group_done}
 use Rattle.audit.specs.declared.orders.OrderChecked.{OrderChecked}
 use Rattle.audit.specs.declared.groups.GroupChecked.{GroupChecked}
 

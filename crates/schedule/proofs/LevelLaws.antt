@@ -12,7 +12,7 @@ use Rattle.search.specs.Search.{rows_below, elem}
 use Rattle.search.specs.Demand.{Order, among}
 use Rattle.search.specs.OrderLaws.{elem_times, times_pos}
 use Rattle.schedule.specs.Schedule.{above, level}
-use Rattle.schedule.specs.MoreSums.{count_single}
+use Rattle.schedule.proofs.MoreSums.{count_single}
 
 -- a row of a list has a place, and an entry before place b is among the first b
 elem_place : (i : ℕ) (o : List ℕ) → elem i o ≡ true → (j : ℕ) × (j < length o) × (get_or o j 0 ≡ i)

@@ -18,13 +18,13 @@ use Rattle.search.specs.Demand.{Order, among, Passing}
 use Rattle.search.specs.OrderLaws.{ledger, placing_distinct, placing_passing}
 use Rattle.search.specs.DemandLaws.{search_truth, rows_below_lem}
 use Rattle.search.specs.Answers.{found_of, placed_of}
-use Rattle.search.specs.CallLaws.{found_refused, found_demanded}
+use Rattle.search.proofs.CallLaws.{found_refused, found_demanded}
 use Rattle.audit.specs.Audit.{order_checked_of}
-use Rattle.audit.specs.AuditLaws.{order_done_iff}
+use Rattle.audit.proofs.AuditLaws.{order_done_iff}
 use Rattle.search.specs.declared.call.Found.{Found}
 use Rattle.schedule.specs.Schedule.{above, level, Pattern, Scheduled, Safe, Proper, Enough}
-use Rattle.schedule.specs.Jobs.{jobs_sound, jobs_exist}
-use Rattle.schedule.specs.LevelLaws.{level_row, level_above, order_level, level_apart}
+use Rattle.schedule.proofs.Jobs.{jobs_sound, jobs_exist}
+use Rattle.schedule.proofs.LevelLaws.{level_row, level_above, order_level, level_apart}
 
 -- a row in its range is one that the theorems ask for
 pub ranged_proper : (r : Row) → Ranged r → Proper r

@@ -16,9 +16,9 @@ use Rattle.test.proofs.TestLaws.{interference_scale, passes_iff}
 use Rattle.search.specs.Search.{rows_below}
 use Rattle.search.specs.Demand.{Order, among, Passing}
 use Rattle.schedule.specs.Schedule.{Safe, Proper, Enough}
-use Rattle.schedule.specs.LevelLaws.{order_row}
-use Rattle.schedule.specs.Safety.{order_safe}
-use Rattle.schedule.specs.Finer.{finer, cap_finer, work_finer, carry_work_finer, proper_finer}
+use Rattle.schedule.proofs.LevelLaws.{order_row}
+use Rattle.schedule.proofs.Safety.{order_safe}
+use Rattle.schedule.proofs.Finer.{finer, cap_finer, work_finer, carry_work_finer, proper_finer}
 
 -- the row with C one tick longer
 abbrev pub longer : Row → Row

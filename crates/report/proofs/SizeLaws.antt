@@ -23,14 +23,14 @@ use Rattle.search.specs.Search.{elem, rows_below}
 use Rattle.search.specs.Demand.{among}
 use Rattle.search.specs.Answers.{placed_of, found_of, written_of, Demanded}
 use Rattle.search.specs.OrderLaws.{elem_times}
-use Rattle.search.specs.CallLaws.{placed_most, found_demanded}
+use Rattle.search.proofs.CallLaws.{placed_most, found_demanded}
 use Rattle.search.specs.declared.call.Found.{Found}
 use Rattle.book.specs.Layout.{edition_one}
 use Rattle.book.specs.Read.{content, read_of}
 use Rattle.report.specs.TextLaws.{decimal_short, lines_most}
 use Rattle.report.specs.Listing.{order_word, blocked_word, share, load, header, row_line, level_line, member_line, listed, refused_text, listing_of}
 use Rattle.book.proofs.BookLaws.{read_handed}
-use Rattle.report.specs.ListingLaws.{Cases, unread, read, listing_cases}
+use Rattle.report.proofs.ListingLaws.{Cases, unread, read, listing_cases}
 
 -- ---- the numbers
 

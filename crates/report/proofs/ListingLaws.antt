@@ -17,7 +17,7 @@ use Rattle.test.proofs.TestLaws.{used_ext}
 use Rattle.search.specs.Search.{elem}
 use Rattle.search.specs.Demand.{among}
 use Rattle.search.specs.Answers.{placed_of, found_of}
-use Rattle.search.specs.CallLaws.{placed_most, found_blocked, found_done}
+use Rattle.search.proofs.CallLaws.{placed_most, found_blocked, found_done}
 use Rattle.search.specs.declared.call.Found.{Found}
 use Rattle.book.specs.Layout.{edition_one}
 use Rattle.book.specs.Read.{content, read_checks, each_block, block_checks, head_checks, body_checks, refused, taken, read_of}

@@ -19,7 +19,7 @@ use Rattle.rows.specs.Table.{table_fault}
 use Rattle.rows.proofs.TableLaws.{fault_length}
 use Rattle.rows.specs.declared.table.Checked.{Checked}
 use Rattle.search.specs.Answers.{refusal, found_of, written_of}
-use Rattle.search.specs.CallLaws.{found_refused, written_same}
+use Rattle.search.proofs.CallLaws.{found_refused, written_same}
 use Rattle.search.specs.declared.call.Found.{Found}
 use Rattle.records.specs.declared.Task.{Task}
 use Rattle.records.specs.declared.Flat.{Flat}

@@ -20,10 +20,10 @@ use Rattle.workload.proofs.WorkloadLaws.{work_mono}
 use Rattle.test.specs.Test.{plain_from, extra_from, interference, passes}
 use Rattle.test.proofs.TestLaws.{passes_iff}
 use Rattle.schedule.specs.Schedule.{Proper, Enough}
-use Rattle.schedule.specs.Lives.{Life, served, due, Meets}
-use Rattle.schedule.specs.MoreSums.{sum_split, sum_swap, top_choice, count_reach}
-use Rattle.schedule.specs.WorkBounds.{served_mono, plain_bound, carry_bound}
-use Rattle.schedule.specs.CarryIn.{Driven, acts, busy, start, Start, start_is, CarryIn, carry_in_few}
+use Rattle.schedule.proofs.Lives.{Life, served, due, Meets}
+use Rattle.schedule.proofs.MoreSums.{sum_split, sum_swap, top_choice, count_reach}
+use Rattle.schedule.proofs.WorkBounds.{served_mono, plain_bound, carry_bound}
+use Rattle.schedule.proofs.CarryIn.{Driven, acts, busy, start, Start, start_is, CarryIn, carry_in_few}
 
 module _ (n m : ℕ) (t : ℕ → Row) (over : ℕ → ℕ → Bool) (s : ℕ → Life) (pos : 0 < m) (v : (i : ℕ) → i < n → Proper (t i)) (g : Driven n m t over s)
     (k : ℕ) (kn : k < n) (higher : (i : ℕ) → i < n → over k i ≡ true → Meets (t i) (s i)) where

@@ -13,8 +13,8 @@ use Rattle.sets.specs.SumLaws.{on_le, sum_upto}
 use Rattle.rows.specs.declared.table.Row.{Row}
 use Rattle.workload.specs.Workload.{work}
 use Rattle.schedule.specs.Schedule.{Proper}
-use Rattle.schedule.specs.Lives.{Life, served, due, LifeOf, Meets}
-use Rattle.schedule.specs.MoreSums.{sum_rise, spaced_far, spaced_mono, spaced_least, first_after}
+use Rattle.schedule.proofs.Lives.{Life, served, due, LifeOf, Meets}
+use Rattle.schedule.proofs.MoreSums.{sum_rise, spaced_far, spaced_mono, spaced_least, first_after}
 
 pub served_mono : (h : Life) (x y : ℕ) → x ≤ y → served h x ≤ served h y
 served_mono h x y l = sum_upto x y _ l

@@ -10,9 +10,9 @@ use Rattle.sets.specs.SumLaws.{sum_zero, count_mono}
 use Rattle.sets.specs.Sets.{◌⊆◌}
 use Rattle.rows.specs.declared.table.Row.{Row}
 use Rattle.schedule.specs.Schedule.{Proper}
-use Rattle.schedule.specs.Lives.{Life, served, due, Backlog, LifeOf}
-use Rattle.schedule.specs.MoreSums.{first_after}
-use Rattle.schedule.specs.WorkBounds.{served_mono, Fresh, release_least}
+use Rattle.schedule.proofs.Lives.{Life, served, due, Backlog, LifeOf}
+use Rattle.schedule.proofs.MoreSums.{first_after}
+use Rattle.schedule.proofs.WorkBounds.{served_mono, Fresh, release_least}
 
 -- What the proofs use of a schedule: `over k` are the tasks above k, and where k is behind and does not execute, m of them do.
 -- That at most m tasks execute in a tick is not used.

@@ -12,10 +12,10 @@ use Rattle.sets.specs.SumLaws.{sum_mono, sum_add, sum_zero, count_one, first_is,
 use Rattle.rows.specs.declared.table.Row.{Row}
 use Rattle.test.specs.Test.{passes}
 use Rattle.schedule.specs.Schedule.{Course, active, is_job, service, Pending, Sporadic, InTime, above, LegalJobs, Pattern, Scheduled, Proper, Enough}
-use Rattle.schedule.specs.Lives.{Life, served, due, Backlog, LifeOf, LegalLives}
-use Rattle.schedule.specs.MoreSums.{sum_smaller, count_single, spaced_mono, spaced_least}
-use Rattle.schedule.specs.Sound.{legal_meets}
-use Rattle.schedule.specs.Exists.{made, made_legal}
+use Rattle.schedule.proofs.Lives.{Life, served, due, Backlog, LifeOf, LegalLives}
+use Rattle.schedule.proofs.MoreSums.{sum_smaller, count_single, spaced_mono, spaced_least}
+use Rattle.schedule.proofs.Sound.{legal_meets}
+use Rattle.schedule.proofs.Exists.{made, made_legal}
 
 -- ---- what a task does in a tick
 

@@ -12,8 +12,8 @@ use Rattle.sets.specs.BoolLaws.{either, not_both, and_left, and_right}
 use Rattle.sets.specs.SumLaws.{sum_mono, sum_ext, sum_add, first_is}
 use Rattle.rows.specs.declared.table.Row.{Row}
 use Rattle.schedule.specs.Schedule.{above, Pattern}
-use Rattle.schedule.specs.Lives.{Life, served, LegalLives}
-use Rattle.schedule.specs.MoreSums.{sum_at, count_none, count_single, spaced_least}
+use Rattle.schedule.proofs.Lives.{Life, served, LegalLives}
+use Rattle.schedule.proofs.MoreSums.{sum_at, count_none, count_single, spaced_least}
 
 -- ---- the m highest of a set
 

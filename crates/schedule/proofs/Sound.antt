@@ -7,9 +7,9 @@ use Rattle.rows.specs.Board.{board}
 use Rattle.rows.specs.declared.table.Row.{Row}
 use Rattle.test.specs.Test.{passes}
 use Rattle.schedule.specs.Schedule.{above, Proper, Enough}
-use Rattle.schedule.specs.Lives.{Life, Meets, LegalLives}
-use Rattle.schedule.specs.CarryIn.{Driven}
-use Rattle.schedule.specs.Window.{meets}
+use Rattle.schedule.proofs.Lives.{Life, Meets, LegalLives}
+use Rattle.schedule.proofs.CarryIn.{Driven}
+use Rattle.schedule.proofs.Window.{meets}
 
 module _ (n m : ℕ) (t : ℕ → Row) (s : ℕ → Life) (pos : 0 < m) (v : (i : ℕ) → i < n → Proper (t i)) (c : ℕ) (enough : Enough n m c) where
   -- k and all tasks above it pass

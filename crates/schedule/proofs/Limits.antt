@@ -14,13 +14,13 @@ use Rattle.search.specs.Search.{rows_below, free}
 use Rattle.search.specs.Demand.{Order, among, Passing}
 use Rattle.search.specs.OrderLaws.{distinct_order}
 use Rattle.schedule.specs.Schedule.{Course, active, service, LegalJobs, level, Pattern, Safe, Proper}
-use Rattle.schedule.specs.Lives.{served}
-use Rattle.schedule.specs.MoreSums.{sum_swap, sum_smaller}
-use Rattle.schedule.specs.Exists.{made, given, made_legal}
-use Rattle.schedule.specs.Jobs.{life, jobs_served, course, course_late, legal_courses}
-use Rattle.schedule.specs.LevelLaws.{level_apart}
-use Rattle.schedule.specs.Safety.{order_possible, order_safe}
-use Rattle.schedule.specs.Finer.{finer}
+use Rattle.schedule.proofs.Lives.{served}
+use Rattle.schedule.proofs.MoreSums.{sum_swap, sum_smaller}
+use Rattle.schedule.proofs.Exists.{made, given, made_legal}
+use Rattle.schedule.proofs.Jobs.{life, jobs_served, course, course_late, legal_courses}
+use Rattle.schedule.proofs.LevelLaws.{level_apart}
+use Rattle.schedule.proofs.Safety.{order_possible, order_safe}
+use Rattle.schedule.proofs.Finer.{finer}
 
 -- job j of a course has not finished at its deadline
 abbrev pub Late : Row → Course → ℕ → Type 0

@@ -1,0 +1,3 @@
+pub mod ListingLaws
+pub mod SizeLaws
+pub mod Cases

@@ -1,0 +1,13 @@
+pub mod CarryIn
+pub mod Exists
+pub mod Finer
+pub mod Jobs
+pub mod LevelLaws
+pub mod Limits
+pub mod Lives
+pub mod Margin
+pub mod MoreSums
+pub mod Safety
+pub mod Sound
+pub mod Window
+pub mod WorkBounds
