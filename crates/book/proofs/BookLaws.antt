@@ -28,7 +28,7 @@ use Rattle.book.specs.Read.{of_block, content, verdict_of, checked, each_block, 
 use Rattle.book.specs.Fault.{fault_of}
 use Rattle.book.specs.FaultLaws.{passed_clear}
 use Rattle.book.proofs.ReadLaws.{content_count, table_length, lowest_bad_lem, Readable, readable, read_taken, into_taken}
-use Rattle.book.specs.BackLaws.{Legal, content_back, checks_back}
+use Rattle.book.proofs.BackLaws.{Legal, content_back, checks_back}
 use Rattle.book.specs.declared.checks.Fault.TheVariants.{Clear}
 use Rattle.book.specs.declared.verdicts.Verdict.{Verdict}
 use Rattle.book.specs.declared.writing.BookWritten.{BookWritten}

@@ -15,5 +15,4 @@ pub mod LayoutLaws
 pub mod BlockLaws
 pub mod Known
 pub mod FormLaws
-pub mod BackLaws
 pub mod Cases
