@@ -5,8 +5,8 @@
 use Rattle.std.specs.Prelude.{ℕ, ◌-◌, ◌≤◌, ◌<◌, ◌≡◌, refl, ◌↔◌, ◌⊎◌, true, false, List, eqb, leb, ltb, length, get_or, replicate}
 use Rattle.std.proofs.Common.{sym, ap, ◌∙◌, inl, inr, ⊎_elim, arith, eq-or-lt_of_le, eqb-true, leb-true, leb-false, ltb-true, ltb-false}
 use Rattle.std.proofs.Math.Path.{fun_ext}
-use Rattle.std.proofs.lemmas.List.{length-replicate}
 use Rattle.std.proofs.lemmas.Bool.{eqb-false}
+use Rattle.std.proofs.lemmas.List.{length-replicate}
 use Rattle.sets.specs.BoolLaws.{either, not_both}
 use Rattle.rows.specs.Numbers.{done, blocked, malformed, order_fails, member_passes}
 use Rattle.sets.specs.Sets.{has, ◌⊆◌, size}

@@ -1,13 +1,10 @@
 -- Laws of the check of an order: what an order is, its rows level by level as the code takes them out of a mask, the lowest level that
 -- fails, and the answer by the check that decides it.
 -- Assumes nothing.
-use Prim.Native.Nat.{ℕ, zero, suc, ◌+◌, ◌-◌, ◌≤◌, ◌<◌}
-use Rattle.std.specs.Prelude.{◌≡◌, ◌↔◌, ◌⊎◌, Bool, true, false, List, [], ◌∷◌, eqb, length, take, drop, get_or}
-use Rattle.std.proofs.Math.Path.{refl, sym}
-use Rattle.std.proofs.Common.{ap, ◌∙◌, inl, inr, ⊎_elim, eq-or-lt_of_le, le_of_suc-le-suc, le_refl, take-append-drop, drop_of_length-le, drop-cons}
+use Rattle.std.specs.Prelude.{ℕ, zero, suc, ◌+◌, ◌-◌, ◌≤◌, ◌<◌, ◌≡◌, ◌↔◌, ◌⊎◌, Bool, true, false, List, [], ◌∷◌, eqb, length, take, drop, get_or}
+use Rattle.std.proofs.Common.{ap, ◌∙◌, inl, inr, ⊎_elim, eq-or-lt_of_le, le_of_suc-le-suc, le_refl, take-append-drop, drop_of_length-le, drop-cons, arith, ltb-true, leb-false, eqb-true, eq-eqb}
 use Rattle.std.proofs.Math.Bool.{and-true}
-use native.Mathlib.Omega.{arith}
-use borrow.Author.Tests.{ltb-true, leb-false, eqb-true, eq-eqb}
+use Rattle.std.proofs.Math.Path.{refl, sym}
 use Rattle.sets.specs.BoolLaws.{either, not_both, and_in, and_left, and_right, same}
 use Rattle.rows.specs.Judge.{Check, check}
 use Rattle.rows.specs.Numbers.{done, malformed, order_fails}

@@ -1,16 +1,12 @@
 -- What is written reads back, for every edition whose blocks hold their fields: the content of a book is what was written, and every check passes.
 -- Assumes nothing.
-use Prim.Native.Nat.{ℕ, zero, suc, ◌+◌, ◌-◌, ◌*◌, ◌/◌, ◌%◌, ◌^◌, ◌≤◌, ◌<◌}
-use Rattle.std.specs.Prelude.{◌≡◌, Bool, ltb}
-use Rattle.std.proofs.Math.Path.{refl}
-use Rattle.std.proofs.Common.{ap, ◌∙◌, ⊎_elim, zero-add, le-div_iff_mul-le, mul-le-mul_left}
+use Rattle.std.specs.Prelude.{ℕ, zero, suc, ◌+◌, ◌-◌, ◌*◌, ◌/◌, ◌%◌, ◌^◌, ◌≤◌, ◌<◌, ◌≡◌, Bool, ltb, List, ◌++◌}
+use Rattle.std.proofs.Common.{ap, ◌∙◌, ⊎_elim, zero-add, le-div_iff_mul-le, mul-le-mul_left, arith, eq-eqb, lt-ltb, le-leb, ltb-true, ltb-false}
 use Rattle.std.proofs.Math.Bool.{true, false, not}
-use mathlib.Core.List.{List, ◌++◌}
-use native.Mathlib.Omega.{arith}
-use Rattle.std.proofs.Math.Nat.{mod-lt, div-add-mod, div-mul-le_self, suc-mul}
 use Rattle.std.proofs.Math.Dec.{eqb}
 use Rattle.std.proofs.Math.ListN.{length, get_or}
-use borrow.Author.Tests.{eq-eqb, lt-ltb, le-leb, ltb-true, ltb-false}
+use Rattle.std.proofs.Math.Nat.{mod-lt, div-add-mod, div-mul-le_self, suc-mul}
+use Rattle.std.proofs.Math.Path.{refl}
 use Rattle.sets.specs.BoolLaws.{either, not_both, and_in}
 use Rattle.sets.specs.Sums.{first}
 use Rattle.sets.specs.NumberLaws.{div_mono}

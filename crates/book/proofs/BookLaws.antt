@@ -3,8 +3,8 @@
 -- Assumes nothing.
 use Rattle.std.specs.Prelude.{ℕ, zero, suc, ◌+◌, ◌*◌, ◌/◌, ◌%◌, ◌^◌, ◌≤◌, ◌<◌, ◌≡◌, refl, true, false, List, [], ◌++◌, ltb, leb, eqb, take, drop, replicate}
 use Rattle.std.proofs.Common.{zero-le, sym, ap₂, ◌∙◌, ⊎_elim, arith, zero-add, lt_of_lt_of_le, pow_mono, eqb-true, eq-eqb, le-leb, ltb-true, ltb-false, leb-true}
-use Rattle.std.proofs.Math.Path.{ap}
 use Rattle.std.proofs.Math.ListN.{length, get_or, get_or-eq_default}
+use Rattle.std.proofs.Math.Path.{ap}
 use Rattle.std.proofs.Math.Seq.{take_at}
 use Rattle.std.proofs.lemmas.Bool.{not-false}
 use Rattle.sets.specs.BoolLaws.{either, and_in}

@@ -15,7 +15,7 @@ use Rattle.book.specs.ByteLaws.{run_at, run_length}
 use Rattle.book.specs.Fault.{fault_of}
 use Rattle.book.specs.FaultLaws.{judge_told, fault_first, fault_next}
 use Rattle.book.specs.Form.{formed}
-use Rattle.book.specs.Layout.{Edition, edition_one, longest, blocks}
+use Rattle.book.specs.Layout.{Edition, edition_one, longest}
 use Rattle.book.specs.Known.{Sealed, Headed}
 use Rattle.book.specs.Read.{place, word_at, verdict_of, content, whole, numbered, checked, each_block, spelled, lowest_bad, block_checks, head_checks, body_checks, read_checks, refused, taken, read_of, read_into}
 use Rattle.book.specs.declared.checks.Fault.TheVariants.{At, Clear}

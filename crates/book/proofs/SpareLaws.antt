@@ -1,18 +1,16 @@
 -- What the code tests for 13: a book whose blocks have their numbers and checks is what writing its content gives exactly where every spare byte is zero;
 -- and the spare bytes of a block are one run.
 -- Assumes nothing.
-use Prim.Native.Nat.{ℕ, zero, suc, ◌+◌, ◌-◌, ◌*◌, ◌/◌, ◌%◌, ◌≤◌, ◌<◌}
-use Rattle.std.specs.Prelude.{◌≡◌, false, cond, ◌&&◌, List, [], ◌∷◌, leb}
-use Rattle.std.proofs.Math.Path.{refl, sym, ap}
-use Rattle.std.proofs.Common.{◌∙◌, zero-add, mul_comm, div-one, add-one}
-use Rattle.std.proofs.Math.Logic.{⊎_elim}
-use Rattle.std.proofs.Math.Bool.{Bool, true}
-use native.Mathlib.Omega.{arith}
+use Rattle.std.specs.Prelude.{ℕ, zero, suc, ◌+◌, ◌-◌, ◌*◌, ◌/◌, ◌%◌, ◌≤◌, ◌<◌, ◌≡◌, false, cond, ◌&&◌, List, [], ◌∷◌, leb}
+use Rattle.std.proofs.Common.{◌∙◌, zero-add, mul_comm, div-one, add-one, arith, eqb-true, eq-eqb, lt-ltb, le-ltb, le-leb}
 use Rattle.std.proofs.Math.Arith.{digits_div, digits_mod}
-use Rattle.std.specs.Int.Bits.{bit_or}
+use Rattle.std.proofs.Math.Bool.{Bool, true}
 use Rattle.std.proofs.Math.Dec.{eqb}
 use Rattle.std.proofs.Math.ListN.{length, get_or, get_or-eq_default}
-use borrow.Author.Tests.{eqb-true, eq-eqb, lt-ltb, le-ltb, le-leb, lt-leb}
+use Rattle.std.proofs.Math.Logic.{⊎_elim}
+use Rattle.std.proofs.Math.Path.{refl, sym, ap}
+use Rattle.std.specs.Int.Bits.{bit_or}
+use borrow.Author.Tests.{lt-leb}
 use Rattle.sets.specs.BoolLaws.{either, not_both}
 use Rattle.rows.specs.Judge.{Check, check, check_at}
 use Rattle.rows.specs.Numbers.{row_range, short_output, book_field}
@@ -21,7 +19,7 @@ use Rattle.book.specs.Bytes.{byte, big, little, check_of, all}
 use Rattle.book.specs.ByteLaws.{run_length, run_at, all_at, all_make, all_from, or_none, side, check_ext, check_fits, byte_little, byte_big, byte_low, byte_high, byte_none, little_lt}
 use Rattle.book.specs.Fault.{fault_of}
 use Rattle.book.specs.Form.{formed}
-use Rattle.book.specs.Layout.{Edition, edition_one, longest, blocks, head, inner, opened, sealed, at}
+use Rattle.book.specs.Layout.{Edition, edition_one, longest, head, inner, opened, sealed, at}
 use Rattle.book.specs.LayoutLaws.{Fit, one_fits, at_inner, head_order, head_group, head_more}
 use Rattle.book.specs.Read.{of_block, place, word_at, group_of, verdict_of, content, numbered, checked, spelled, fields_check, lowest_bad, body_checks}
 use Rattle.book.specs.Known.{Sealed, Headed}

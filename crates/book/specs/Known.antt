@@ -1,8 +1,8 @@
 -- What a book is known to be once its first checks have passed: what functions behind them ask of it.
 -- Assumes nothing.
-use Rattle.std.specs.Prelude.{ℕ, ◌+◌, ◌*◌, ◌/◌, ◌≤◌, ◌<◌, ◌≡◌, true, List, length, get_or}
+use Rattle.std.specs.Prelude.{ℕ, ◌*◌, ◌/◌, ◌≤◌, ◌<◌, ◌≡◌, true, List, length, get_or}
 use Rattle.book.specs.Layout.{edition_one, blocks}
-use Rattle.book.specs.Read.{numbered, checked, content}
+use Rattle.book.specs.Read.{numbered, checked}
 
 pub record Sealed (b : List ℕ) : Type 0 where
   pub some : 512 ≤ length b

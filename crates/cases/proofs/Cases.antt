@@ -4,7 +4,7 @@ use Rattle.std.specs.Prelude.{◌≡◌, refl, true}
 use Rattle.sets.specs.Sets.{without}
 use Rattle.workload.specs.Workload.{work, cap, plain, carry, extra}
 use Rattle.test.specs.Test.{interference, used, passes}
-use Rattle.search.specs.Search.{rows_below, free, next, finished, probe, search}
+use Rattle.search.specs.Search.{free, next, finished, probe, search}
 use Rattle.rows.specs.Table.{row_count}
 use Rattle.book.specs.Bytes.{run, sum16, check_of}
 use Rattle.policy.specs.Policy.{less_root, smaller, before, rank, ranked, proposed}

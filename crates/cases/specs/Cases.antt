@@ -1,19 +1,16 @@
 -- The K cases of document 01, as one table about the definitions: `cases`, the last lines. That every case holds is `K` in proofs/Cases.antt.
 -- Assumes nothing.
-use Rattle.std.specs.Prelude.{ℕ, zero, suc, ◌-◌, ◌*◌, ◌≡◌, refl, Bool, true, false, cond, ◌&&◌, List, [], ◌∷◌, eqb, length, get_or, take, drop}
+use Rattle.std.specs.Prelude.{ℕ, zero, suc, ◌-◌, ◌*◌, Bool, true, false, cond, ◌&&◌, List, [], ◌∷◌, eqb, length, get_or, take, drop}
 use Rattle.rows.specs.Board.{board}
 use Rattle.rows.specs.declared.table.Row.{Row}
 use Rattle.sets.specs.Sets.{without}
-use Rattle.workload.specs.Workload.{work, cap, plain, carry, extra}
-use Rattle.test.specs.Test.{interference, used, passes}
-use Rattle.search.specs.Search.{rows_below, free, next, finished, probe, search}
+use Rattle.test.specs.Test.{used, passes}
+use Rattle.search.specs.Search.{rows_below, free, search}
 use Rattle.search.specs.Demand.{among}
-use Rattle.rows.specs.Table.{row_count}
-use Rattle.book.specs.Bytes.{run, sum16, check_of}
-use Rattle.book.specs.Layout.{edition_one, inner, opened, sealed, book_of}
+use Rattle.book.specs.Layout.{edition_one, book_of}
 use Rattle.book.specs.Read.{no_verdict}
 use Rattle.book.specs.Write.{content_of}
-use Rattle.policy.specs.Policy.{less_root, smaller, before, rank, ranked, proposed}
+use Rattle.policy.specs.Policy.{proposed}
 
 unfoldable pub row : ℕ → ℕ → ℕ → Row
 row c d t = record { c = c; d = d; t = t }

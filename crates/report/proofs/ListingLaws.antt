@@ -1,9 +1,8 @@
 -- Laws of the listing: its lines by the masks that the code holds, the listing of a table by what the search answers, and of a book by what reading answers.
 -- Assumes nothing.
 use Rattle.std.specs.Prelude.{ℕ, zero, suc, ◌+◌, ◌*◌, ◌/◌, ◌≤◌, ◌<◌, ◌≡◌, ◌⊎◌, Bool, true, false, ◌||◌, List, [], ◌∷◌, ◌++◌, eqb, length, get_or, take}
+use Rattle.std.proofs.Common.{sym, ◌∙◌, inl, inr, ⊎_elim, arith, eq-or-lt_of_le, add-one, take-suc, eq-eqb, ne_eqb}
 use Rattle.std.proofs.Math.Path.{refl, ap}
-use Rattle.std.proofs.Common.{sym, ◌∙◌, inl, inr, ⊎_elim, arith, eq-or-lt_of_le, add-one, take-suc}
-use borrow.Author.Tests.{eq-eqb, ne_eqb}
 use Rattle.rows.specs.Board.{board_of, limited}
 use Rattle.rows.specs.Judge.{Check, judge}
 use Rattle.rows.specs.Numbers.{done, blocked}

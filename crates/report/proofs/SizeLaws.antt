@@ -1,12 +1,11 @@
 -- How long a listing is: the text of any book fits an output of 8,192 bytes.
 -- Assumes nothing.
 use Rattle.std.specs.Prelude.{ℕ, zero, suc, ◌+◌, ◌^◌, ◌≤◌, ◌<◌, ◌≡◌, refl, Bool, true, false, ◌||◌, List, [], ◌∷◌, length, get_or, take, replicate}
-use Rattle.std.proofs.Math.Logic.{⊎_elim}
-use native.Mathlib.Omega.{arith}
-use Rattle.std.proofs.Common.{div-le_self, mul-le-mul_right, eqb-true, eq-eqb, ltb-true}
-use Rattle.std.proofs.Math.Nat.{div-le_of_le-mul}
+use Rattle.std.proofs.Common.{arith, div-le_self, mul-le-mul_right, eqb-true, eq-eqb, ltb-true}
 use Rattle.std.proofs.Math.Dec.{eqb}
 use Rattle.std.proofs.Math.ListN.{length-append}
+use Rattle.std.proofs.Math.Logic.{⊎_elim}
+use Rattle.std.proofs.Math.Nat.{div-le_of_le-mul}
 use Rattle.std.proofs.lemmas.List.{length-replicate}
 use Rattle.rows.specs.declared.terms.Terms.{Terms}
 use Rattle.rows.specs.Board.{board_of, limited}

@@ -1,15 +1,12 @@
 -- Laws of the test, in the words of document 01, each over any board.
 -- A smaller set above and fewer carry-ins interfere no more; a row passes exactly when the interference is below cap · m, also where the plain sum is given; with fewer than m rows above it always passes; equal rows and sets give equal answers; what fits which width.
 -- Assumes nothing.
-use Prim.Native.Nat.{ℕ, zero, suc, ◌+◌, ◌*◌, ◌-◌, ◌/◌, ◌^◌, ◌≤◌, ◌<◌, zero-le}
-use Rattle.std.specs.Prelude.{◌≡◌, ◌↔◌, Bool, ◌||◌, ltb, eqb}
-use Rattle.std.proofs.Math.Path.{refl, ap, ap₂}
-use Rattle.std.proofs.Common.{◌∙◌, le_refl, mul-zero, mul-le-mul_left, div-lt_iff_lt-mul, add-zero}
+use Rattle.std.specs.Prelude.{ℕ, zero, suc, ◌+◌, ◌*◌, ◌-◌, ◌/◌, ◌^◌, ◌≤◌, ◌<◌, ◌≡◌, ◌↔◌, Bool, ◌||◌, ltb, eqb}
+use Rattle.std.proofs.Common.{zero-le, ◌∙◌, le_refl, mul-zero, mul-le-mul_left, div-lt_iff_lt-mul, add-zero, arith, leb-true, le-leb, lt-ltb, ltb-true}
 use Rattle.std.proofs.Math.Bool.{true, false, or-true, or-false}
-use native.Mathlib.Omega.{arith}
-use Rattle.std.proofs.Math.Nat.{le_trans, add-le-add, mul-le-mul_right, div-le_self, div-zero}
 use Rattle.std.proofs.Math.Dec.{leb, eqb-suc-zero}
-use borrow.Author.Tests.{leb-true, le-leb, lt-ltb, ltb-true}
+use Rattle.std.proofs.Math.Nat.{le_trans, add-le-add, mul-le-mul_right, div-le_self, div-zero}
+use Rattle.std.proofs.Math.Path.{refl, ap, ap₂}
 use Rattle.sets.specs.BoolLaws.{same}
 use Rattle.sets.specs.NumberLaws.{div_mono, ltb_shift}
 use Rattle.sets.specs.Sums.{on, count}
