@@ -4,6 +4,8 @@
 
 ghost use Rattle.io.specs.Counts.{IsPrefixLen};
 
+use std::io;
+use std::io::{BufReader, BufWriter, Read, Write};
 use wire::case::{Case, Shape};
 use wire::numbers::Block;
 use wire::{Bytes, Words, case};
@@ -53,7 +55,8 @@ fn shape(kind: u8) -> Shape {
 }
 
 // The answer to a case of each kind; false of an unknown one.
-fn answer(
+fn answer<W: Write>(
+    out: &mut W,
     kind: u8,
     table: &[u32],
     numbers: &Block,
@@ -61,27 +64,27 @@ fn answer(
     size: usize,
     words: Words,
     room: usize,
-) -> bool
+) -> io::Result<bool>
     requires { IsPrefixLen size bytes × IsPrefixLen room words }
 {
     match kind {
-        1 => table::test(table, numbers),
-        2 => table::search(table, numbers, bytes, size),
-        3 => table::step(table, numbers),
-        4 => table::policy(table, numbers, bytes, size),
-        5 => table::check_order(table, numbers, bytes, size),
-        6 => table::check_group(table, numbers),
-        7 => books::write(table, numbers, bytes, size),
-        8 => books::read(bytes, size, words, room),
+        1 => table::test(out, table, numbers)?,
+        2 => table::search(out, table, numbers, bytes, size)?,
+        3 => table::step(out, table, numbers)?,
+        4 => table::policy(out, table, numbers, bytes, size)?,
+        5 => table::check_order(out, table, numbers, bytes, size)?,
+        6 => table::check_group(out, table, numbers)?,
+        7 => books::write(out, table, numbers, bytes, size)?,
+        8 => books::read(out, bytes, size, words, room)?,
         _ => {
-            return false;
+            return Ok(false);
         }
     }
-    true
+    Ok(true)
 }
 
 // Takes a whole case apart, so that the lines of `answer` speak of its parts alone.
-fn answer_whole(kind: u8, case: Case) -> bool
+fn answer_whole<W: Write>(out: &mut W, kind: u8, case: Case) -> io::Result<bool>
     requires prefix_len { IsPrefixLen case.table.n case.table.words }
     requires prefix_len_2 { IsPrefixLen case.list.n case.list.bytes }
     requires prefix_len_3 { IsPrefixLen case.room.n case.room.words }
@@ -91,6 +94,7 @@ fn answer_whole(kind: u8, case: Case) -> bool
     let bytes = case.list.bytes;
     let words = case.room.words;
     answer(
+        out,
         kind,
         &table[..n],
         &case.numbers,
@@ -102,19 +106,24 @@ fn answer_whole(kind: u8, case: Case) -> bool
 }
 
 // One case. False where the input ends, is cut short, or has another kind.
-fn one_case() -> bool {
-    let kind = case::kind();
-    let case = case::read(shape(kind));
+fn one_case<R: Read, W: Write>(input: &mut R, out: &mut W) -> io::Result<bool> {
+    let kind = case::kind(input)?;
+    let case = case::read(input, shape(kind))?;
     if !case.whole {
-        return false;
+        return Ok(false);
     }
-    answer_whole(kind, case)
+    answer_whole(out, kind, case)
 }
 
-// Cases until one is the last.
-fn main() {
-    let mut left: u64 = 0xffff_ffff_ffff_ffff;
-    while 0 < left && one_case() {
-        left -= 1;
+// Cases until one is the last. Each answer is written before the next case is read.
+fn main(rt: HostRuntime) -> io::Result<()> {
+    let mut input = BufReader::new(rt.alloc(), rt.reader())?;
+    let mut out = BufWriter::new(rt.alloc(), io::writer(&rt))?;
+    for _ in 0..u64::MAX {
+        if !one_case(&mut input, &mut out)? {
+            break;
+        }
+        out.flush()?;
     }
+    Ok(())
 }

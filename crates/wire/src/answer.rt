@@ -3,6 +3,8 @@ ghost use Rattle.std.specs.Prelude.{◌<◌};
 
 use crate::{Bytes, Words};
 use sets::Set;
+use std::io;
+use std::io::Write;
 
 fn wide(x: u32) -> u64 {
     x as u64
@@ -15,7 +17,7 @@ fn byte(value: u64, unit: u64) -> u8
 }
 
 // A number, eight bytes.
-pub fn part(value: u64) {
+pub fn part<W: Write>(out: &mut W, value: u64) -> io::Result<()> {
     let bytes = [
         byte(value, 0x100_0000_0000_0000),
         byte(value, 0x1_0000_0000_0000),
@@ -26,79 +28,93 @@ pub fn part(value: u64) {
         byte(value, 0x100),
         byte(value, 1),
     ];
-    io::write_all(1, &bytes);
+    out.write_all(&bytes)
 }
 
 // Parts of narrower types: the cast stands here, once.
-pub fn small(value: u32) {
-    part(wide(value));
+pub fn small<W: Write>(out: &mut W, value: u32) -> io::Result<()> {
+    part(out, wide(value))
 }
 
-pub fn size(value: usize) {
-    part(value as u64);
+pub fn size<W: Write>(out: &mut W, value: usize) -> io::Result<()> {
+    part(out, value as u64)
 }
 
-pub fn flag(value: bool) {
-    part(if value { 1 } else { 0 });
+pub fn flag<W: Write>(out: &mut W, value: bool) -> io::Result<()> {
+    part(out, if value { 1 } else { 0 })
 }
 
-pub fn set(value: Set) {
-    part(value.low);
-    part(value.high);
+pub fn set<W: Write>(out: &mut W, value: Set) -> io::Result<()> {
+    part(out, value.low)?;
+    part(out, value.high)
 }
 
-pub fn order(order: [u8; 96]) {
-    io::write_all(1, &order);
+pub fn order<W: Write>(out: &mut W, order: [u8; 96]) -> io::Result<()> {
+    out.write_all(&order)
 }
 
 // How every answer begins.
-pub fn head(number: u32, row: usize) {
-    small(number);
-    size(row);
+pub fn head<W: Write>(out: &mut W, number: u32, row: usize) -> io::Result<()> {
+    small(out, number)?;
+    size(out, row)
 }
 
 // The answer of a search.
-pub fn found(number: u32, row: usize, group: Set, tests: u64) {
-    head(number, row);
-    set(group);
-    part(tests);
+pub fn found<W: Write>(
+    out: &mut W,
+    number: u32,
+    row: usize,
+    group: Set,
+    tests: u64,
+) -> io::Result<()> {
+    head(out, number, row)?;
+    set(out, group)?;
+    part(out, tests)
 }
 
-pub fn state(order_after: [u8; 96], placed: usize, cursor: usize) {
-    order(order_after);
-    size(placed);
-    size(cursor);
+pub fn state<W: Write>(
+    out: &mut W,
+    order_after: [u8; 96],
+    placed: usize,
+    cursor: usize,
+) -> io::Result<()> {
+    order(out, order_after)?;
+    size(out, placed)?;
+    size(out, cursor)
 }
 
-pub fn verdict(kind: u32, group: Set, order_said: [u8; 96]) {
-    small(kind);
-    set(group);
-    order(order_said);
+pub fn verdict<W: Write>(
+    out: &mut W,
+    kind: u32,
+    group: Set,
+    order_said: [u8; 96],
+) -> io::Result<()> {
+    small(out, kind)?;
+    set(out, group)?;
+    order(out, order_said)
 }
 
 // The first `n` bytes of a buffer.
-pub fn bytes(bytes: Bytes, n: usize) {
+pub fn bytes<W: Write>(out: &mut W, bytes: Bytes, n: usize) -> io::Result<()> {
     let size = crate::within(n, &bytes);
-    io::write_all(1, &bytes[..size]);
+    out.write_all(&bytes[..size])
 }
 
 // A word, four bytes.
-fn word(value: u64) {
+fn word<W: Write>(out: &mut W, value: u64) -> io::Result<()> {
     let bytes = [
         byte(value, 0x100_0000),
         byte(value, 0x1_0000),
         byte(value, 0x100),
         byte(value, 1),
     ];
-    io::write_all(1, &bytes);
+    out.write_all(&bytes)
 }
 
 // The first `n` words of a buffer.
-pub fn words(words: Words, n: usize) {
-    let end = crate::at_most(n, 512);
-    let mut i: usize = 0;
-    while i < end {
-        word(wide(words[i]));
-        i += 1;
+pub fn words<W: Write>(out: &mut W, words: Words, n: usize) -> io::Result<()> {
+    for i in 0..crate::at_most(n, 512) {
+        word(out, wide(words[i]))?;
     }
+    Ok(())
 }

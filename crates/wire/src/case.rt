@@ -1,9 +1,11 @@
 // The parts of a case. Each says whether the case is whole so far; where it is not, nothing more is read.
-ghost use Rattle.std.specs.Prelude.{◌≤◌};
+ghost use Rattle.std.specs.Prelude.{◌≤◌, IfOk};
 ghost use Rattle.io.specs.Counts.{IsPrefixLen};
 
 use crate::numbers::Block;
 use crate::{Bytes, Words, numbers};
+use std::io;
+use std::io::{ErrorKind, Read};
 
 // Which parts a case has, in this order: a table; so many bytes of numbers; a list of at most so many bytes, none with 0;
 // so many bytes of numbers after it; output words.
@@ -46,29 +48,39 @@ struct Listed {
     whole: bool,
 }
 
+// Reads until the bytes are full. Not whole where the input ends before.
+fn read_whole<R: Read>(input: &mut R, bytes: &mut [u8]) -> io::Result<bool> {
+    match input.read_exact(bytes) {
+        Ok(()) => Ok(true),
+        Err(e) if e.kind() == ErrorKind::UnexpectedEof => Ok(false),
+        Err(e) => Err(e),
+    }
+}
+
 // Reads so many bytes. Not whole where the input ends before them, or where there is no room for them.
-fn fill(whole: bool, bytes: &mut [u8], size: usize) -> bool {
+fn fill<R: Read>(input: &mut R, whole: bool, bytes: &mut [u8], size: usize) -> io::Result<bool> {
     if !whole {
-        return false;
+        return Ok(false);
     }
     let n = crate::within(size, &*bytes);
-    io::read_full(0, &mut bytes[..n]) == size
+    let is_read = read_whole(input, &mut bytes[..n])?;
+    Ok(is_read && n == size)
 }
 
 // How many elements the next list has; none where the case has no such list. Not whole where they are more than `most`.
-fn count(whole: bool, is_there: bool, most: usize) -> Listed
-    ensures { result.n ≤ most }
+fn count<R: Read>(input: &mut R, whole: bool, is_there: bool, most: usize) -> io::Result<Listed>
+    ensures { IfOk result (λ listed. listed.n ≤ most) }
 {
     if !is_there {
-        return Listed { n: 0, whole };
+        return Ok(Listed { n: 0, whole });
     }
     let mut bytes = [0u8; 2];
-    let is_read = fill(whole, &mut bytes, 2);
+    let is_read = fill(input, whole, &mut bytes, 2)?;
     let n = numbers::pair(bytes[0], bytes[1]) as usize;
     if most < n {
-        return Listed { n: 0, whole: false };
+        return Ok(Listed { n: 0, whole: false });
     }
-    Listed { n, whole: is_read }
+    Ok(Listed { n, whole: is_read })
 }
 
 // The first `n` words of the bytes.
@@ -77,67 +89,65 @@ fn words_of(bytes: &Block, n: usize) -> Words
     ensures { IsPrefixLen n result }
 {
     let mut words = [0u32; 512];
-    let mut i: usize = 0;
-    while i < n {
+    for i in 0..n {
         words[i] = numbers::word(bytes, 4 * i);
-        i += 1;
     }
     words
 }
 
-fn word_list(whole: bool, is_there: bool) -> WordList
-    ensures { IsPrefixLen result.n result.words }
+fn word_list<R: Read>(input: &mut R, whole: bool, is_there: bool) -> io::Result<WordList>
+    ensures { IfOk result (λ list. IsPrefixLen list.n list.words) }
 {
-    let listed = count(whole, is_there, 512);
+    let listed = count(input, whole, is_there, 512)?;
     let n = listed.n;
     let mut bytes = [0u8; 2048];
-    let is_read = fill(listed.whole, &mut bytes, 4 * n);
+    let is_read = fill(input, listed.whole, &mut bytes, 4 * n)?;
     let words = words_of(&bytes, n);
-    WordList {
+    Ok(WordList {
         n,
         words,
         whole: is_read,
-    }
+    })
 }
 
-fn byte_list(whole: bool, most: usize) -> ByteList
-    ensures { IsPrefixLen result.n result.bytes }
+fn byte_list<R: Read>(input: &mut R, whole: bool, most: usize) -> io::Result<ByteList>
+    ensures { IfOk result (λ list. IsPrefixLen list.n list.bytes) }
 {
-    let listed = count(whole, 0 < most, most);
+    let listed = count(input, whole, 0 < most, most)?;
     let mut bytes = [0u8; 4200];
-    let is_read = fill(listed.whole, &mut bytes, listed.n);
+    let is_read = fill(input, listed.whole, &mut bytes, listed.n)?;
     let n = crate::within(listed.n, &bytes);
-    ByteList {
+    Ok(ByteList {
         n,
         bytes,
         whole: is_read,
-    }
+    })
 }
 
 // The first byte of a case, its kind; 0 where the input ends.
-pub fn kind() -> u8 {
+pub fn kind<R: Read>(input: &mut R) -> io::Result<u8> {
     let mut bytes = [0u8; 1];
-    io::read_full(0, &mut bytes);
-    bytes[0]
+    read_whole(input, &mut bytes)?;
+    Ok(bytes[0])
 }
 
-pub fn read(shape: Shape) -> Case
-    ensures prefix_len { IsPrefixLen result.table.n result.table.words }
-    ensures prefix_len_2 { IsPrefixLen result.list.n result.list.bytes }
-    ensures prefix_len_3 { IsPrefixLen result.room.n result.room.words }
+pub fn read<R: Read>(input: &mut R, shape: Shape) -> io::Result<Case>
+    ensures prefix_len { IfOk result (λ case. IsPrefixLen case.table.n case.table.words) }
+    ensures prefix_len_2 { IfOk result (λ case. IsPrefixLen case.list.n case.list.bytes) }
+    ensures prefix_len_3 { IfOk result (λ case. IsPrefixLen case.room.n case.room.words) }
 {
-    let table = word_list(true, shape.table);
+    let table = word_list(input, true, shape.table)?;
     let mut numbers = [0u8; 2048];
     let at = crate::within(shape.numbers, &numbers);
-    let whole = fill(table.whole, &mut numbers, shape.numbers);
-    let list = byte_list(whole, shape.list);
-    let whole = fill(list.whole, &mut numbers[at..], shape.after);
-    let room = word_list(whole, shape.room);
-    Case {
+    let whole = fill(input, table.whole, &mut numbers, shape.numbers)?;
+    let list = byte_list(input, whole, shape.list)?;
+    let whole = fill(input, list.whole, &mut numbers[at..], shape.after)?;
+    let room = word_list(input, whole, shape.room)?;
+    Ok(Case {
         table,
         numbers,
         list,
         room,
         whole: room.whole,
-    }
+    })
 }

@@ -24,5 +24,5 @@ pub(crate) fn at_most(n: usize, most: usize) -> usize
 pub(crate) fn within(n: usize, bytes: &[u8]) -> usize
     ensures { IsPrefixLen result bytes.now }
 {
-    io::count(at_most(n, 65535) as isize, bytes)
+    at_most(n, bytes.len())
 }

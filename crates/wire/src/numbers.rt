@@ -69,10 +69,8 @@ fn order_in(bytes: &Block, at: usize) -> [u8; 96]
     requires { at + 96 ≤ 2048 }
 {
     let mut order = [0u8; 96];
-    let mut i: usize = 0;
-    while i < 96 {
+    for i in 0..96 {
         order[i] = bytes[at + i];
-        i += 1;
     }
     order
 }
