@@ -9,7 +9,7 @@ use Rattle.rows.specs.Table.{row_count}
 use Rattle.book.specs.Bytes.{run, sum16, check_of}
 use Rattle.policy.specs.Policy.{less_root, smaller, before, rank, ranked, proposed}
 use Rattle.book.specs.Layout.{inner, opened, sealed, book_of}
-use Rattle.cases.proofs.Cases.{row, table_of, same, members, levels, holds, every, three, four, cases}
+use Rattle.cases.specs.Cases.{row, table_of, same, members, levels, holds, every, three, four, cases}
 
 -- every case holds
 pub K : every cases ≡ true
