@@ -1,25 +1,20 @@
 -- Releases and pre-emptions between ticks. With I / m rounded up, as in 004, in the place of down, as in 01, an order that passes at every level is safe at every subdivision of the tick; so it is where used is less than D. With I / m rounded down it need not be (`Limits`).
--- First a row in finer ticks and the test rounded up, then the parts of the test in finer ticks, then the test, then the theorems.
+-- First a row in finer ticks and the test rounded up, then the parts of the test in finer ticks, then its bound; the theorems stand in FinerSafety.
 -- Assumes nothing.
-use Rattle.std.specs.Prelude.{ℕ, suc, ◌+◌, ◌*◌, ◌-◌, ◌/◌, ◌≤◌, ◌<◌, min, ◌≡◌, ◌⊎◌, Bool, true, false, ◌||◌, List, leb, length, take, get_or}
+use Rattle.std.specs.Prelude.{ℕ, suc, ◌+◌, ◌*◌, ◌-◌, ◌/◌, ◌≤◌, ◌<◌, min, ◌≡◌, Bool, ◌||◌, leb}
 use Rattle.std.proofs.Math.Path.{refl}
-use Rattle.std.proofs.Common.{sym, ap, ◌∙◌, arith, le_trans, one-mul, mul_comm, mul-add, mul-le-mul_left, div-lt_iff_lt-mul, le_of_lt, length-take, leb-true, le-leb, ltb-true, lt-ltb}
+use Rattle.std.proofs.Common.{sym, ap, ◌∙◌, arith, le_trans, one-mul, mul_comm, mul-add, mul-le-mul_left, div-lt_iff_lt-mul, le_of_lt}
 use Rattle.std.proofs.Math.Logic.{⊎_elim}
-use Rattle.std.proofs.Math.Nat.{mul_assoc, mul-sub, mul-div-mul_left, lt-div-mul-add, min-eq_left, min-eq_right, min-le_left, min-le_right}
+use Rattle.std.proofs.Math.Nat.{mul_assoc, mul-sub, mul-div-mul_left, min-eq_left, min-eq_right, min-le_left, min-le_right}
 use Rattle.std.proofs.Math.Dec.{ltb}
 use Rattle.rows.specs.Board.{board}
 use Rattle.sets.specs.NumberLaws.{le_or_lt}
 use Rattle.sets.specs.Sums.{count}
-use Rattle.sets.specs.BoolLaws.{either}
 use Rattle.rows.specs.declared.table.Row.{Row}
 use Rattle.workload.specs.Workload.{work, cap, plain, carry}
-use Rattle.test.specs.Test.{interference, used, passes}
-use Rattle.test.proofs.TestLaws.{interference_scale, passes_iff, passes_few}
-use Rattle.search.specs.Search.{rows_below}
-use Rattle.search.specs.Demand.{Order, among, Passing}
-use Rattle.schedule.specs.Schedule.{Safe, Proper, Enough}
-use Rattle.schedule.proofs.LevelLaws.{among_count, order_row}
-use Rattle.schedule.proofs.Safety.{order_safe}
+use Rattle.test.specs.Test.{interference}
+use Rattle.test.proofs.TestLaws.{interference_scale}
+use Rattle.schedule.specs.Schedule.{Proper}
 
 -- the same row in ticks of which f make one tick
 abbrev pub finer : ℕ → Row → Row
@@ -73,7 +68,7 @@ module _ (f : ℕ) (p : 1 ≤ f) (k : Row) where
   unfolding carry
   carry_finer i = capped_finer (work i (k.d + (i.d - i.c))) _ (carry_work_finer f p k i)
 
-  interference_finer : (n : ℕ) (t : ℕ → Row) (m c : ℕ) (H : ℕ → Bool)
+  pub interference_finer : (n : ℕ) (t : ℕ → Row) (m c : ℕ) (H : ℕ → Bool)
       → interference (board n (λ i. finer f (t i)) m c) H (finer f k) ≤ f * interference (board n t m c) H k
   interference_finer n t m c H =
       rw one-mul at
@@ -83,39 +78,13 @@ module _ (f : ℕ) (p : 1 ≤ f) (k : Row) where
 
 module _ (n : ℕ) (t : ℕ → Row) (m c : ℕ) (H : ℕ → Bool) (k : ℕ) (pos : 1 ≤ m) where
   -- rounded up, I is at most (D - C) · m
-  up_bound : (t k).c ≤ (t k).d → (t k).c + (interference (board n t m c) H (t k) + (m - 1)) / m ≤ (t k).d
+  pub up_bound : (t k).c ≤ (t k).d → (t k).c + (interference (board n t m c) H (t k) + (m - 1)) / m ≤ (t k).d
       → interference (board n t m c) H (t k) ≤ ((t k).d - (t k).c) * m
   up_bound v h =
       let l : interference (board n t m c) H (t k) + (m - 1) < suc ((t k).d - (t k).c) * m = (div-lt_iff_lt-mul pos).0 (omega arith) in
       omega arith
 
-  pub finer_passes : (f : ℕ) → 1 ≤ f → (t k).c ≤ (t k).d → passes_up n t m c H k ≡ true → passes (board n (λ i. finer f (t i)) m c) H k ≡ true
-  unfolding passes_up
-  finer_passes f p v h =
-      ⊎_elim (λ (e : ltb (count n H) m ≡ true). passes_few (board n (λ i. finer f (t i)) m c) H k (mul-le-mul_left f v) (ltb-true (count n H) m e))
-      (λ (e : ltb (count n H) m ≡ false).
-      let g = (t k).d - (t k).c in
-      let up = up_bound v (leb-true ((t k).c + (interference (board n t m c) H (t k) + (m - 1)) / m) (t k).d (rw e at h)) in
-      let l : f * interference (board n t m c) H (t k) ≤ f * g * m = rw mul_assoc (mul-le-mul_left f up) in
-      (passes_iff (board n (λ i. finer f (t i)) m c) H k pos (mul-le-mul_left f v)).1
-      (rw (cap_finer f (t k)) (omega (arith, interference_finer f p (t k) n t m c H))))
-      (either (ltb (count n H) m))
-
-  few_up : count n H < m → passes_up n t m c H k ≡ true
-  unfolding passes_up
-  few_up l = rw (lt-ltb (count n H) m l) refl
-
-  -- rounded up is at most one more than rounded down
-  spare_up : used (board n t m c) H k < (t k).d → passes_up n t m c H k ≡ true
-  unfolding passes_up used
-  spare_up l =
-      let I = interference (board n t m c) H (t k) in
-      let up : (I + (m - 1)) / m < I / m + 2 = (div-lt_iff_lt-mul pos).1 (omega (arith, lt-div-mul-add {a = I} {b = m} pos)) in
-      ⊎_elim (λ (e : ltb (count n H) m ≡ true). rw e refl)
-      (λ (e : ltb (count n H) m ≡ false). rw e (le-leb ((t k).c + (I + (m - 1)) / m) (t k).d (omega arith)))
-      (either (ltb (count n H) m))
-
--- ---- safe at every subdivision
+-- ---- the rows
 
 pub proper_finer : (f : ℕ) → 1 ≤ f → (r : Row) → Proper r → Proper (finer f r)
 proper_finer f p r v = record {
@@ -123,22 +92,3 @@ proper_finer f p r v = record {
   within = mul-le-mul_left f v.within;
   constrained = mul-le-mul_left f v.constrained;
 }
-
-module _ (n m : ℕ) (t : ℕ → Row) (pos : 1 ≤ m) (v : (i : ℕ) → i < n → Proper (t i)) (c : ℕ) (enough : Enough n m c)
-    (o : List ℕ) (O : Order (rows_below n) o) where
-  -- an order that passes, rounded up, at every level is safe in ticks of which f make one, whatever f
-  pub finer_safe : Passing (passes_up n t m c) o → (f : ℕ) → 1 ≤ f → Safe n m (λ i. finer f (t i)) o
-  finer_safe P f p =
-      order_safe n m (λ i. finer f (t i)) pos (λ i l. proper_finer f p (t i) (v i l)) c enough o O
-      (λ j l. finer_passes n t m c (among (take j o)) (get_or o j 0) pos f p (v (get_or o j 0) (order_row n o O j l)).within (P j l))
-
-  -- so is one in which used is less than D at every level, the m highest apart
-  pub spare_safe : ((j : ℕ) → j < length o → (j < m) ⊎ (used (board n t m c) (among (take j o)) (get_or o j 0) < (t (get_or o j 0)).d))
-      → (f : ℕ) → 1 ≤ f → Safe n m (λ i. finer f (t i)) o
-  spare_safe h =
-      finer_safe
-      (λ j l.
-      ⊎_elim
-      (λ (q : j < m). few_up n t m c (among (take j o)) (get_or o j 0) pos (omega (arith, among_count n (take j o), length-take j o)))
-      (λ q. spare_up n t m c (among (take j o)) (get_or o j 0) pos q)
-      (h j l))

@@ -1,6 +1,7 @@
 pub mod CarryIn
 pub mod Exists
 pub mod Finer
+pub mod FinerSafety
 pub mod Jobs
 pub mod LevelLaws
 pub mod Limits
@@ -10,4 +11,5 @@ pub mod MoreSums
 pub mod Safety
 pub mod Sound
 pub mod Window
+pub mod Deadlines
 pub mod WorkBounds

@@ -9,7 +9,7 @@ use Rattle.test.specs.Test.{passes}
 use Rattle.schedule.specs.Schedule.{above, Proper, Enough}
 use Rattle.schedule.proofs.Lives.{Life, Meets, LegalLives}
 use Rattle.schedule.proofs.CarryIn.{Driven}
-use Rattle.schedule.proofs.Window.{meets}
+use Rattle.schedule.proofs.Deadlines.{meets}
 
 module _ (n m : ℕ) (t : ℕ → Row) (s : ℕ → Life) (pos : 0 < m) (v : (i : ℕ) → i < n → Proper (t i)) (c : ℕ) (enough : Enough n m c) where
   -- k and all tasks above it pass

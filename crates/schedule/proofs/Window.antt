@@ -1,5 +1,5 @@
--- A task that passes meets its deadlines, where the tasks above it meet theirs.
--- The window has the length D of task k and starts as in `CarryIn`, so it ends by the deadline of k's job. First what the tasks above k execute in the ticks that m of them fill, which is at most the interference; then how many such ticks a job that is not finished needs; then the task.
+-- A job of a task that passes meets its deadline, where the jobs before it met theirs and the tasks above meet theirs.
+-- The window has the length D of task k and starts as in `CarryIn`, so it ends by the deadline of k's job. First what the tasks above k execute in the ticks that m of them fill, which is at most the interference; then how many such ticks a job that is not finished needs; then one job of the task (Deadlines has them all).
 -- Assumes nothing.
 use Prim.Native.Nat.{ℕ, zero, suc, ◌+◌, ◌*◌, ◌-◌, ◌≤◌, ◌<◌, max, zero-le}
 use Rattle.std.specs.Prelude.{◌≡◌, Bool, ◌&&◌}
@@ -137,10 +137,10 @@ module _ (n m : ℕ) (t : ℕ → Row) (over : ℕ → ℕ → Bool) (s : ℕ �
     late_busy : (t k).d - (t k).c + 1 ≤ count (t k).d (busy_from x)
     late_busy = omega (arith, not_busy (t k).d (le_refl (t k).d), (g.tasks k kn).costs j, v k kn)
 
-  -- ---- the task
+  -- ---- one job of the task
 
   -- the row passes exactly when the interference is less than cap · m, so the job has finished at its deadline
-  finishes : (c : ℕ) → Enough n m c → passes (board n t m c) (over k) k ≡ true
+  pub finishes : (c : ℕ) → Enough n m c → passes (board n t m c) (over k) k ≡ true
       → (j : ℕ) → due (s k) j ≤ served (s k) ((s k).release j) → due (s k) (suc j) ≤ served (s k) ((s k).release j + (t k).d)
   unfolding cap
   finishes c enough P j own =
@@ -159,11 +159,3 @@ module _ (n m : ℕ) (t : ℕ → Row) (over : ℕ → ℕ → Bool) (s : ℕ �
         (passes_iff (board n t m c) (over k) k pos (v k kn).within).0 P,
       )))
       (le_or_lt (due (s k) (suc j)) (served (s k) (x + L)))
-
-  -- one job after the other: each has finished when the next is released
-  pub meets : (c : ℕ) → Enough n m c → passes (board n t m c) (over k) k ≡ true → Meets (t k) (s k)
-  meets c enough P zero = finishes c enough P zero zero-le
-  meets c enough P (suc j) =
-      finishes c enough P (suc j)
-      (le_trans (meets c enough P j)
-      (served_mono (s k) ((s k).release j + (t k).d) ((s k).release (suc j)) (omega (arith, (g.tasks k kn).spaced j, (v k kn).constrained))))
