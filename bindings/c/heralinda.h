@@ -1,7 +1,6 @@
 /*
  * The entries of Heralinda for build tools. Link libhost.a for heralinda_search and librecords.a for
- * heralinda_search_records, which `rt staticlib host` and `rt staticlib records` write to target/staticlib/; a program
- * may link both.
+ * heralinda_search_records, which `tools/libraries` writes to target/staticlib/; a program may link both.
  */
 #ifndef HERALINDA_H
 #define HERALINDA_H

@@ -1,6 +1,6 @@
-//! Links `libhost.a` and `librecords.a`, which `rt staticlib host` and `rt staticlib records`
-//! write to `target/staticlib/`. The environment variable `HERALINDA_LIB_DIR` names another
-//! folder, a relative one seen from this package.
+//! Links `libhost.a` and `librecords.a`, which `tools/libraries` writes to `target/staticlib/`.
+//! The environment variable `HERALINDA_LIB_DIR` names another folder, a relative one seen from
+//! this package.
 
 use std::env;
 use std::path::{Path, PathBuf};
@@ -20,7 +20,7 @@ fn link(folder: &Path, library: &str) {
     let archive = folder.join(format!("lib{library}.a"));
     if !archive.exists() {
         println!(
-            "cargo:warning=there is no {}: `rt staticlib {library}` writes it, or \
+            "cargo:warning=there is no {}: `tools/libraries {library}` writes it, or \
              {FOLDER_VARIABLE} names the folder that has it",
             archive.display()
         );

@@ -84,8 +84,7 @@ fn search_copy(table: Flat, m: u32, out: &mut [u8]) -> Found
 
 // The search of the tasks: the answer that their flat words get. Callers in C and Rust declare Task, Found and Set
 // again, so these three have C's layout.
-#[unsafe(no_mangle)]
-pub extern "C" fn heralinda_search_records(tasks: &[Task], m: u32, out: &mut [u8]) -> Found
+pub fn heralinda_search_records(tasks: &[Task], m: u32, out: &mut [u8]) -> Found
     ensures value { result ≡ found_of (flat tasks.now) (limited m) (length out.old) }
     ensures out_after { out.new ≡ written_of (flat tasks.now) (limited m) out.old }
 {
