@@ -5,7 +5,7 @@
 ghost use Rattle.io.specs.Counts.{IsPrefixLen};
 
 use std::io;
-use std::io::{BufReader, BufWriter, Read, Write};
+use std::io::{Read, Write};
 use wire::case::{Case, Shape};
 use wire::numbers::Block;
 use wire::{Bytes, Words, case};
@@ -117,13 +117,12 @@ fn one_case<R: Read, W: Write>(input: &mut R, out: &mut W) -> io::Result<bool> {
 
 // Cases until one is the last. Each answer is written before the next case is read.
 fn main(rt: HostRuntime) -> io::Result<()> {
-    let mut input = BufReader::new(rt.alloc(), rt.reader())?;
-    let mut out = BufWriter::new(rt.alloc(), io::writer(&rt))?;
+    let mut input = rt.reader();
+    let mut out = io::writer(&rt);
     for _ in 0..u64::MAX {
         if !one_case(&mut input, &mut out)? {
             break;
         }
-        out.flush()?;
     }
     Ok(())
 }
