@@ -6,6 +6,7 @@ use Rattle.std.proofs.Math.ListN.{get_or-eq_default}
 use Rattle.std.proofs.lemmas.Bool.{lt-leb, not-false}
 use Rattle.sets.specs.BoolLaws.{either, and_left, and_right}
 use Rattle.sets.specs.SumLaws.{first_is}
+use Rattle.rows.specs.Known.{Ranged, Valid}
 use Rattle.rows.specs.Judge.{Check, check, check_at, judge}
 use Rattle.rows.specs.Numbers.{done, table_length, cores, row_range}
 use Rattle.rows.specs.Table.{in_range, words_at, read_at, faulty, table, row_count, first_fault, table_checks, table_fault}
@@ -14,12 +15,6 @@ use Rattle.rows.specs.declared.table.RowRead.TheVariants.{Fine, Fault}
 use Rattle.rows.specs.declared.table.Checked.{Checked}
 
 -- ---- rows
-
-pub record Ranged (r : Row) : Type 0 where
-  pub some : 1 ≤ r.c
-  pub within : r.c ≤ r.d
-  pub constrained : r.d ≤ r.t
-  pub short : r.t ≤ 10_000_000
 
 pub in_range_lem : (r : Row) → in_range r ≡ true → Ranged r
 unfolding in_range
@@ -169,15 +164,6 @@ module _ {A : Type 0} (words : List ℕ) (m : ℕ) (others : List Check) (refuse
 
   pub judge_passed : (table_fault words m).number ≡ done → judge (table_checks words m ++ others) refuse work ≡ judge others refuse work
   judge_passed h = judge_table words m others refuse work ∙ rw (eq-eqb (table_fault words m).number done h) refl
-
--- a table and core count that passed
-pub record Valid (words : List ℕ) (m : ℕ) : Type 0 where
-  pub some_cores : 1 ≤ m
-  pub most_cores : m ≤ 32
-  pub whole : length words ≡ 3 * row_count words
-  pub most_rows : row_count words ≤ 96
-  pub ranged : (i : ℕ) → i < row_count words → Ranged (table words i)
-  pub words_are : (i : ℕ) → i < row_count words → table words i ≡ words_at words i
 
 row_is : (words : List ℕ) (i : ℕ) → faulty words i ≡ false → Ranged (table words i) × (table words i ≡ words_at words i)
 row_is words i e =

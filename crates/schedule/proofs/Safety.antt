@@ -9,7 +9,8 @@ use Rattle.sets.specs.BoolLaws.{either}
 use Rattle.rows.specs.Numbers.{done}
 use Rattle.sets.specs.Sums.{times, on}
 use Rattle.rows.specs.Table.{table, row_count, table_fault}
-use Rattle.rows.proofs.TableLaws.{Ranged, Valid, passed_valid}
+use Rattle.rows.specs.Known.{Ranged, Valid}
+use Rattle.rows.proofs.TableLaws.{passed_valid}
 use Rattle.rows.specs.declared.table.Row.{Row}
 use Rattle.test.specs.Test.{passes}
 use Rattle.test.proofs.TestLaws.{passes_antitone}

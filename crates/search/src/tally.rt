@@ -47,7 +47,8 @@ pub(crate) fn take(words: &[u32], n: usize, left: Set, k: usize, sums: &mut [u32
     let mut i = rest.next(0);
     while i < n {
         let sum = sums[i];
-        if sum < UNKNOWN {
+        let is_known = sum < UNKNOWN;
+        if is_known {
             sums[i] = sum - test::plain(words, i, k);
         }
         i = rest.next(i + 1);

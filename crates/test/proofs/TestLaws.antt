@@ -15,7 +15,7 @@ use Rattle.sets.specs.Sets.{◌⊆◌, without}
 use Rattle.sets.specs.SetLaws.{sum_without}
 use Rattle.rows.specs.declared.table.Row.{Row}
 use Rattle.rows.specs.Board.{Board, carrying, holding}
-use Rattle.rows.proofs.TableLaws.{Ranged}
+use Rattle.rows.specs.Known.{Ranged}
 use Rattle.workload.specs.Workload.{plain, carry, extra, cap}
 use Rattle.workload.proofs.WorkloadLaws.{plain_cap, extra_cap, plain_extra, carry_cap, cap_fits}
 use Rattle.test.specs.Test.{top, plain_from, extra_from, interference, used, passes, plain_on, plain_sum, passes_with}

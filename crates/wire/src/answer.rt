@@ -1,4 +1,4 @@
-// The parts of an answer, high byte first.
+// The parts of an answer, high byte first. An error is the writer's; part of the answer may have been written then.
 ghost use Rattle.std.specs.Prelude.{◌<◌};
 
 use crate::{Bytes, Words};

@@ -1,5 +1,8 @@
-// The parts of a case. Each says whether the case is whole so far; where it is not, nothing more is read.
-ghost use Rattle.std.specs.Prelude.{◌≤◌, IfOk};
+// The parts of a case. Each says whether the case is whole so far; where it is not, nothing more is read. An error is the
+// reader's and never that the input ends; part of the input may have been read then.
+ghost use Rattle.std.specs.Prelude.{◌≤◌, ◌≢◌, IfOk, IfErr};
+ghost use Rattle.std.specs.IoError.{error_kind};
+ghost use Rattle.std.specs.declared.io.ErrorKind.TheVariants.{UnexpectedEof};
 ghost use Rattle.io.specs.Counts.{IsPrefixLen};
 
 use crate::numbers::Block;
@@ -49,7 +52,9 @@ struct Listed {
 }
 
 // Reads until the bytes are full. Not whole where the input ends before.
-fn read_whole<R: Read>(input: &mut R, bytes: &mut [u8]) -> io::Result<bool> {
+fn read_whole<R: Read>(input: &mut R, bytes: &mut [u8]) -> io::Result<bool>
+    ensures { IfErr result (λ e. error_kind e ≢ UnexpectedEof) }
+{
     match input.read_exact(bytes) {
         Ok(()) => Ok(true),
         Err(e) if e.kind() == ErrorKind::UnexpectedEof => Ok(false),
@@ -58,7 +63,9 @@ fn read_whole<R: Read>(input: &mut R, bytes: &mut [u8]) -> io::Result<bool> {
 }
 
 // Reads so many bytes. Not whole where the input ends before them, or where there is no room for them.
-fn fill<R: Read>(input: &mut R, whole: bool, bytes: &mut [u8], size: usize) -> io::Result<bool> {
+fn fill<R: Read>(input: &mut R, whole: bool, bytes: &mut [u8], size: usize) -> io::Result<bool>
+    ensures { IfErr result (λ e. error_kind e ≢ UnexpectedEof) }
+{
     if !whole {
         return Ok(false);
     }
@@ -69,7 +76,8 @@ fn fill<R: Read>(input: &mut R, whole: bool, bytes: &mut [u8], size: usize) -> i
 
 // How many elements the next list has; none where the case has no such list. Not whole where they are more than `most`.
 fn count<R: Read>(input: &mut R, whole: bool, is_there: bool, most: usize) -> io::Result<Listed>
-    ensures { IfOk result (λ listed. listed.n ≤ most) }
+    ensures ok { IfOk result (λ listed. listed.n ≤ most) }
+    ensures err { IfErr result (λ e. error_kind e ≢ UnexpectedEof) }
 {
     if !is_there {
         return Ok(Listed { n: 0, whole });
@@ -96,7 +104,8 @@ fn words_of(bytes: &Block, n: usize) -> Words
 }
 
 fn word_list<R: Read>(input: &mut R, whole: bool, is_there: bool) -> io::Result<WordList>
-    ensures { IfOk result (λ list. IsPrefixLen list.n list.words) }
+    ensures ok { IfOk result (λ list. IsPrefixLen list.n list.words) }
+    ensures err { IfErr result (λ e. error_kind e ≢ UnexpectedEof) }
 {
     let listed = count(input, whole, is_there, 512)?;
     let n = listed.n;
@@ -111,7 +120,8 @@ fn word_list<R: Read>(input: &mut R, whole: bool, is_there: bool) -> io::Result<
 }
 
 fn byte_list<R: Read>(input: &mut R, whole: bool, most: usize) -> io::Result<ByteList>
-    ensures { IfOk result (λ list. IsPrefixLen list.n list.bytes) }
+    ensures ok { IfOk result (λ list. IsPrefixLen list.n list.bytes) }
+    ensures err { IfErr result (λ e. error_kind e ≢ UnexpectedEof) }
 {
     let listed = count(input, whole, 0 < most, most)?;
     let mut bytes = [0u8; 4200];
@@ -125,7 +135,9 @@ fn byte_list<R: Read>(input: &mut R, whole: bool, most: usize) -> io::Result<Byt
 }
 
 // The first byte of a case, its kind; 0 where the input ends.
-pub fn kind<R: Read>(input: &mut R) -> io::Result<u8> {
+pub fn kind<R: Read>(input: &mut R) -> io::Result<u8>
+    ensures { IfErr result (λ e. error_kind e ≢ UnexpectedEof) }
+{
     let mut bytes = [0u8; 1];
     read_whole(input, &mut bytes)?;
     Ok(bytes[0])
@@ -135,6 +147,7 @@ pub fn read<R: Read>(input: &mut R, shape: Shape) -> io::Result<Case>
     ensures prefix_len { IfOk result (λ case. IsPrefixLen case.table.n case.table.words) }
     ensures prefix_len_2 { IfOk result (λ case. IsPrefixLen case.list.n case.list.bytes) }
     ensures prefix_len_3 { IfOk result (λ case. IsPrefixLen case.room.n case.room.words) }
+    ensures err { IfErr result (λ e. error_kind e ≢ UnexpectedEof) }
 {
     let table = word_list(input, true, shape.table)?;
     let mut numbers = [0u8; 2048];

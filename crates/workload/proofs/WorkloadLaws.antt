@@ -5,7 +5,7 @@ use Rattle.std.proofs.Common.{⊎_elim, arith, mul-zero, add-mul, mul-le-mul_rig
 use Rattle.std.proofs.Math.Nat.{add-div_right, add-mod_right, mod-eq-sub-div-mul}
 use Rattle.rows.specs.declared.table.Row.{Row}
 use Rattle.sets.specs.NumberLaws.{div_mono}
-use Rattle.rows.proofs.TableLaws.{Ranged}
+use Rattle.rows.specs.Known.{Ranged}
 use Rattle.workload.specs.Workload.{work, cap, plain, carry, extra}
 
 pub work_mono : (i : Row) {x y : ℕ} → x ≤ y → work i x ≤ work i y

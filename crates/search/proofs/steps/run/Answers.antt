@@ -3,7 +3,6 @@ use Rattle.rows.proofs.TableLaws.{row_count_most}
 use Rattle.search.specs.TallyLaws.{tally_fresh}
 use Rattle.search.specs.StepLaws.{stands_start, stands_placed, stands_left, stands_probe, run_unfinished, run_blocked, run_done}
 use Rattle.search.proofs.steps.run.Goals as goal
-use Rattle.search.proofs.steps.run.Goals.{then-loop-k-test+else-tests-quota, else-loop-k-test}
 
 pub loop-k-init : goal.loop-k-init
 loop-k-init c =
@@ -29,19 +28,14 @@ pub loop-k-preserved : goal.loop-k-preserved
 loop-k-preserved c =
     let n = c.requires.n_value.0 in
     record {
-      stands = stands_probe c.loop-k.invariant.stands (row_count_most _) (rw n at c.loop-k-test.true) c.if-tests-quota.true
+      stands = stands_probe c.loop-k.invariant.stands (row_count_most _) (rw n at c.loop-k-test.true) (omega arith)
           c.probe-stand.ensures.value (rw n at c.next_row-k-in-loop-k.ensures);
       tallied = c.probe-stand.ensures.tallied;
     }
 
 pub returns-then-k-n : goal.returns-then-k-n
 returns-then-k-n c =
-    let spent : c.args.quota ≤ c.loop-k.tests =
-    elim c.loop-k-test.branch [
-      | then-loop-k-test+else-tests-quota w ↦ omega arith
-      | else-loop-k-test w ↦ absurd (omega arith)
-    ]
-    in
+    let spent : c.args.quota ≤ c.loop-k.tests = omega arith in
     run_unfinished c.loop-k.invariant.stands (rw c.requires.n_value.0 at c.if-k-n.true) spent
 
 pub returns-then-end-n : goal.returns-then-end-n

@@ -3,7 +3,7 @@ use Rattle.sets.specs.PassLaws.{next_from}
 use Rattle.sets.specs.Sets.{has}
 use Rattle.search.specs.TallyLaws.{taking_start, taking_fits, taking_unknown, taking_less, taking_end}
 use Rattle.search.proofs.tally.take.Goals as goal
-use Rattle.search.proofs.tally.take.Goals.{then-sum-lt-UNKNOWN, else-sum-lt-UNKNOWN}
+use Rattle.search.proofs.tally.take.Goals.{then-is_known, else-is_known}
 
 pub loop-i-init : goal.loop-i-init
 loop-i-init c =
@@ -14,7 +14,7 @@ loop-i-init c =
 pub overflow_sub-sums : goal.overflow_sub-sums
 overflow_sub-sums c =
     let row = rw c.requires.0 at c.loop-i-test.true in
-    omega (arith, c.plain.ensures, taking_fits _ c.loop-i.invariant row c.if-sum-lt-UNKNOWN.true)
+    omega (arith, c.plain.ensures, taking_fits _ c.loop-i.invariant row c.if-is_known.true)
 
 pub loop-i-smaller : goal.loop-i-smaller
 loop-i-smaller c = omega (arith, c.next-i-in-loop-i.ensures, next_from (has c.without-rest.result) (c.loop-i.i + 1))
@@ -23,10 +23,10 @@ pub loop-i-preserved : goal.loop-i-preserved
 loop-i-preserved c =
     let inv = c.loop-i.invariant in
     let row = rw c.requires.0 at c.loop-i-test.true in
-    elim c.if-sum-lt-UNKNOWN.branch [
-      | then-sum-lt-UNKNOWN w ↦
-          rw (c.next-i-in-loop-i.ensures, w.sums-is) (taking_less _ inv row w.plain.result w.plain.ensures w.if-sum-lt-UNKNOWN.true)
-      | else-sum-lt-UNKNOWN w ↦ rw (c.next-i-in-loop-i.ensures, w.sums-is) (taking_unknown _ inv row w.if-sum-lt-UNKNOWN.false)
+    elim c.if-is_known.branch [
+      | then-is_known w ↦
+          rw (c.next-i-in-loop-i.ensures, w.sums-is) (taking_less _ inv row w.plain.result w.plain.ensures w.if-is_known.true)
+      | else-is_known w ↦ rw (c.next-i-in-loop-i.ensures, w.sums-is) (taking_unknown _ inv row w.if-is_known.false)
     ]
 
 pub returns-clause-tallied : goal.returns-clause-tallied
