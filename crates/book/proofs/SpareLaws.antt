@@ -10,7 +10,7 @@ use Rattle.std.proofs.Math.ListN.{length, get_or, get_or-eq_default}
 use Rattle.std.proofs.Math.Logic.{⊎_elim}
 use Rattle.std.proofs.Math.Path.{refl, sym, ap}
 use Rattle.std.specs.Int.Bits.{bit_or}
-use borrow.Author.Tests.{lt-leb}
+use Rattle.std.proofs.lemmas.Bool.{lt-leb}
 use Rattle.sets.specs.BoolLaws.{either, not_both}
 use Rattle.rows.specs.Judge.{Check, check, check_at}
 use Rattle.rows.specs.Numbers.{row_range, short_output, book_field}

@@ -1,15 +1,14 @@
 -- Laws of two numbers, of runs, of tests of all numbers, of bits together, of the sum and the check, and of numbers as bytes, in this order.
 -- Assumes nothing.
-use Prim.Native.Nat.{ℕ, zero, suc, ◌+◌, ◌-◌, ◌*◌, ◌/◌, ◌%◌, ◌^◌, ◌≤◌, ◌<◌, zero-le}
-use Rattle.std.specs.Prelude.{◌≡◌, refl, ◌⊎◌, Bool, true, false, ◌&&◌, List, [], ◌∷◌, ltb, eqb, length, get_or}
-use Rattle.std.proofs.Math.Path.{sym, ap}
-use Rattle.std.proofs.Common.{ap₂, ◌∙◌, inl, inr, ⊎_elim, arith, le_refl, add-zero, mod-eq_of_lt, div-one, div-lt_iff_lt-mul, pow-suc, mul_comm, zero-lt-suc, eq-or-lt_of_le, le_of_suc-le-suc, mul_assoc, zero-add, suc-add, lt_of_not-le, add-one, lt-ltb, le-ltb, ltb-true, ltb-false, eqb-true, ne_eqb, ext_get_or, pow-add}
-use Rattle.std.proofs.Math.Nat.{zero-div, div-div-eq-div-mul, mul-add-mod_self_right}
-use Rattle.std.proofs.Math.Decide.{dec_le}
-use Rattle.std.proofs.lemmas.Bool.{eqb-false}
-use Rattle.std.specs.Int.Bits.{bit_and, bit_or, or_zero_l, or_add_and}
-use Rattle.std.proofs.lemmas.Nat.{and_le_l, and_le_r, and_comm, and_mask}
+use Rattle.std.specs.Prelude.{ℕ, zero, suc, ◌+◌, ◌-◌, ◌*◌, ◌/◌, ◌%◌, ◌^◌, ◌≤◌, ◌<◌, ◌≡◌, refl, ◌⊎◌, Bool, true, false, ◌&&◌, List, [], ◌∷◌, ltb, eqb, length, get_or}
+use Rattle.std.proofs.Common.{zero-le, ap₂, ◌∙◌, inl, inr, ⊎_elim, arith, le_refl, add-zero, mod-eq_of_lt, div-one, div-lt_iff_lt-mul, pow-suc, mul_comm, zero-lt-suc, eq-or-lt_of_le, le_of_suc-le-suc, mul_assoc, zero-add, suc-add, lt_of_not-le, add-one, lt-ltb, le-ltb, ltb-true, ltb-false, eqb-true, ne_eqb, ext_get_or, pow-add}
 use Rattle.std.proofs.Math.Arith.{digits_mod, digits_div}
+use Rattle.std.proofs.Math.Decide.{dec_le}
+use Rattle.std.proofs.Math.Nat.{zero-div, div-div-eq-div-mul, mul-add-mod_self_right}
+use Rattle.std.proofs.Math.Path.{sym, ap}
+use Rattle.std.proofs.lemmas.Bool.{eqb-false}
+use Rattle.std.proofs.lemmas.Nat.{and_le_l, and_le_r, and_comm, and_mask}
+use Rattle.std.specs.Int.Bits.{bit_and, bit_or, or_zero_l, or_add_and}
 use Rattle.sets.specs.BoolLaws.{either, and_in, and_left, and_right}
 use Rattle.book.specs.Bytes.{byte, big, little, around, sum16, check_of, run, all}
 use Rattle.book.specs.Parts.{carried}

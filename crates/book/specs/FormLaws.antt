@@ -1,8 +1,8 @@
 -- Laws of a verdict's form: an order's entries one at a time, beside the set of the rows seen so far, those behind its rows, and the size of a group that fits.
 -- Assumes nothing.
 use Rattle.std.specs.Prelude.{ℕ, ◌+◌, ◌^◌, ◌≤◌, ◌<◌, ◌≡◌, Bool, true, false, cond, not, ◌&&◌, ◌||◌, List, ltb, leb, eqb, get_or}
-use Rattle.std.proofs.Math.Path.{refl}
 use Rattle.std.proofs.Common.{sym, ap, ⊎_elim, arith, add-one, pow_pos, lt-ltb, le-ltb, ltb-true, eqb-true, leb-true, eq-eqb, ne_eqb}
+use Rattle.std.proofs.Math.Path.{refl}
 use Rattle.std.specs.Int.Bits.{bit_and}
 use Rattle.sets.specs.BoolLaws.{either, and_left, and_right}
 use Rattle.sets.specs.Sets.{word, has, mask, set_of, within, none, with_row}

@@ -1,10 +1,9 @@
 -- Laws of the layout, for every edition: the book's length, its bytes by block, and where the fields of block 0 stand.
 -- Assumes nothing.
 use Rattle.std.specs.Prelude.{ℕ, suc, ◌+◌, ◌-◌, ◌*◌, ◌/◌, ◌%◌, ◌≤◌, ◌<◌, ◌≡◌, List, ◌++◌, length, get_or}
-use Rattle.std.proofs.Math.Path.{refl, ap}
-use Rattle.std.proofs.Common.{sym, ap₂, ◌∙◌, zero-add, get_or-append-add, lt-ltb, le-ltb}
-use native.Mathlib.Omega.{arith}
+use Rattle.std.proofs.Common.{sym, ap₂, ◌∙◌, zero-add, get_or-append-add, lt-ltb, le-ltb, arith}
 use Rattle.std.proofs.Math.ListN.{get_or-append}
+use Rattle.std.proofs.Math.Path.{refl, ap}
 use Rattle.sets.specs.Sets.{word}
 use Rattle.book.specs.Bytes.{byte, check_of, run}
 use Rattle.book.specs.ByteLaws.{run_length, run_at}

@@ -2,9 +2,9 @@
 -- plays no part.
 -- Assumes nothing.
 use Rattle.std.specs.Prelude.{ℕ, ◌*◌, ◌≤◌, ◌<◌, ◌≡◌, ◌⊎◌, true, false, List, [], ◌∷◌, ◌++◌, leb, length, take, drop}
+use Rattle.std.proofs.Common.{ap, ◌∙◌, ⊎_elim, arith, le-leb, leb-true, leb-false}
 use Rattle.std.proofs.Math.Path.{refl, sym}
-use Rattle.std.proofs.Common.{ap, ◌∙◌, ⊎_elim, arith}
-use borrow.Author.Tests.{le-leb, lt-leb, leb-true, leb-false}
+use Rattle.std.proofs.lemmas.Bool.{lt-leb}
 use Rattle.rows.specs.Board.{limited}
 use Rattle.sets.specs.BoolLaws.{either}
 use Rattle.rows.specs.Judge.{Check, check, judge}

@@ -1,14 +1,13 @@
 -- The search's verdict on a table that passed its checks: what it is where every row is placed and where rows are left, and that it has its form.
 -- Assumes nothing.
 use Rattle.std.specs.Prelude.{ℕ, zero, suc, ◌+◌, ◌-◌, ◌≤◌, ◌<◌, ◌≡◌, ◌⊎◌, true, false, List, [], ◌∷◌, ◌++◌, eqb, get_or, drop, replicate}
-use Rattle.std.proofs.Common.{zero-le, sym, ap, ◌∙◌, inl, inr, eq-or-lt_of_le, take-suc, take-take, get_or-take, get_or-append-add, length-take-le, eq-eqb, lt-ltb, le-ltb, ltb-true, ltb-false}
-use Rattle.std.proofs.Math.Path.{refl}
-use Rattle.std.proofs.Math.Logic.{⊎_elim}
-use native.Mathlib.Omega.{arith}
+use Rattle.std.proofs.Common.{zero-le, sym, ap, ◌∙◌, inl, inr, eq-or-lt_of_le, take-suc, take-take, get_or-take, get_or-append-add, length-take-le, eq-eqb, lt-ltb, le-ltb, ltb-true, ltb-false, arith}
 use Rattle.std.proofs.Math.Dec.{ltb}
 use Rattle.std.proofs.Math.ListN.{length, take, length-append, length-drop}
-use Rattle.std.proofs.lemmas.List.{get_or-replicate}
+use Rattle.std.proofs.Math.Logic.{⊎_elim}
+use Rattle.std.proofs.Math.Path.{refl}
 use Rattle.std.proofs.Math.Seq.{take_at, split_at, get_or-drop}
+use Rattle.std.proofs.lemmas.List.{get_or-replicate}
 use Rattle.rows.specs.Board.{board_of, limited}
 use Rattle.sets.specs.BoolLaws.{either, and_in}
 use Rattle.rows.specs.Numbers.{done, blocked}

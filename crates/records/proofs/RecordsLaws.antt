@@ -1,17 +1,16 @@
 -- Laws of tasks as records: the words copied are their flat words, more than 96 of them are refused, and so the answers are the same.
 -- Assumes nothing.
 use Rattle.std.specs.Prelude.{ℕ, zero, suc, ◌+◌, ◌*◌, ◌/◌, ◌%◌, ◌≤◌, ◌<◌, ◌≡◌, true, false, List, [], ◌∷◌, ◌++◌, leb, eqb, length, get_or, set, take, drop}
-use Rattle.std.proofs.Math.Path.{refl}
-use Rattle.std.proofs.Common.{sym, ap, ◌∙◌, inr, append_assoc, append-nil, add-one, drop-cons}
-use Rattle.std.proofs.Math.Logic.{⊎_elim}
-use native.Mathlib.Omega.{arith}
-use Rattle.std.proofs.Math.Nat.{zero-add}
-use Rattle.std.proofs.Math.Numerals.{unary_clauses}
+use Rattle.std.proofs.Common.{sym, ap, ◌∙◌, inr, append_assoc, append-nil, add-one, drop-cons, arith, ltb-true, ltb-false, lt-ltb, le-ltb, leb-true, leb-false, le-leb}
 use Rattle.std.proofs.Math.Dec.{ltb}
 use Rattle.std.proofs.Math.ListN.{length-set}
-use Rattle.std.proofs.lemmas.List.{length-replicate}
+use Rattle.std.proofs.Math.Logic.{⊎_elim}
+use Rattle.std.proofs.Math.Nat.{zero-add}
+use Rattle.std.proofs.Math.Numerals.{unary_clauses}
+use Rattle.std.proofs.Math.Path.{refl}
 use Rattle.std.proofs.Math.Seq.{drop-length}
-use borrow.Author.Tests.{ltb-true, ltb-false, lt-ltb, le-ltb, leb-true, leb-false, le-leb, lt-leb}
+use Rattle.std.proofs.lemmas.List.{length-replicate}
+use Rattle.std.proofs.lemmas.Bool.{lt-leb}
 use Rattle.rows.specs.Board.{limited}
 use Rattle.sets.specs.BoolLaws.{either, and_fails}
 use Rattle.rows.specs.Numbers.{table_length}

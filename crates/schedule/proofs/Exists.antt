@@ -1,11 +1,10 @@
 -- Legal schedules exist: whatever the releases and costs, in each tick let the m highest tasks that are behind execute.
 -- First the m highest of a set of tasks, then which tasks are behind, then the schedule.
 -- Assumes nothing.
-use Prim.Native.Nat.{ℕ, zero, suc, ◌+◌, ◌≤◌, ◌<◌, min, zero-le}
-use Rattle.std.specs.Prelude.{◌≡◌, Bool, true, false, ◌&&◌, leb, ltb, eqb}
-use Rattle.std.proofs.Math.Path.{refl}
-use Rattle.std.proofs.Common.{sym, ap, ◌∙◌, ⊎_elim, arith, le_refl, eq-or-lt_of_le, ne_of_lt, leb-true, ltb-true, ltb-false, le-leb, lt-ltb, le-ltb, eqb-true, eq-eqb, ne_eqb}
+use Rattle.std.specs.Prelude.{ℕ, zero, suc, ◌+◌, ◌≤◌, ◌<◌, min, ◌≡◌, Bool, true, false, ◌&&◌, leb, ltb, eqb}
+use Rattle.std.proofs.Common.{zero-le, sym, ap, ◌∙◌, ⊎_elim, arith, le_refl, eq-or-lt_of_le, ne_of_lt, leb-true, ltb-true, ltb-false, le-leb, lt-ltb, le-ltb, eqb-true, eq-eqb, ne_eqb}
 use Rattle.std.proofs.Math.Bool.{and-true, and-false}
+use Rattle.std.proofs.Math.Path.{refl}
 use Rattle.sets.specs.NumberLaws.{le_or_lt}
 use Rattle.sets.specs.Sums.{on, sum, count, first}
 use Rattle.sets.specs.BoolLaws.{either, not_both, and_left, and_right}

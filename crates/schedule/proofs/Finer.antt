@@ -2,11 +2,11 @@
 -- First a row in finer ticks and the test rounded up, then the parts of the test in finer ticks, then its bound; the theorems stand in FinerSafety.
 -- Assumes nothing.
 use Rattle.std.specs.Prelude.{ℕ, suc, ◌+◌, ◌*◌, ◌-◌, ◌/◌, ◌≤◌, ◌<◌, min, ◌≡◌, Bool, ◌||◌, leb}
-use Rattle.std.proofs.Math.Path.{refl}
 use Rattle.std.proofs.Common.{sym, ap, ◌∙◌, arith, le_trans, one-mul, mul_comm, mul-add, mul-le-mul_left, div-lt_iff_lt-mul, le_of_lt}
+use Rattle.std.proofs.Math.Dec.{ltb}
 use Rattle.std.proofs.Math.Logic.{⊎_elim}
 use Rattle.std.proofs.Math.Nat.{mul_assoc, mul-sub, mul-div-mul_left, min-eq_left, min-eq_right, min-le_left, min-le_right}
-use Rattle.std.proofs.Math.Dec.{ltb}
+use Rattle.std.proofs.Math.Path.{refl}
 use Rattle.rows.specs.Board.{board}
 use Rattle.sets.specs.NumberLaws.{le_or_lt}
 use Rattle.sets.specs.Sums.{count}

@@ -1,11 +1,11 @@
 -- An order that passes, rounded up, at every level is safe at every subdivision of the tick; so is one in which used is less than D.
 -- First the test in finer ticks, by the bound of Finer, then the theorems. Assumes nothing.
 use Rattle.std.specs.Prelude.{ℕ, ◌+◌, ◌*◌, ◌-◌, ◌/◌, ◌≤◌, ◌<◌, ◌≡◌, ◌⊎◌, Bool, true, false, List, length, take, get_or}
-use Rattle.std.proofs.Math.Path.{refl}
 use Rattle.std.proofs.Common.{arith, mul-le-mul_left, div-lt_iff_lt-mul, length-take, leb-true, le-leb, ltb-true, lt-ltb}
+use Rattle.std.proofs.Math.Dec.{ltb}
 use Rattle.std.proofs.Math.Logic.{⊎_elim}
 use Rattle.std.proofs.Math.Nat.{mul_assoc, lt-div-mul-add}
-use Rattle.std.proofs.Math.Dec.{ltb}
+use Rattle.std.proofs.Math.Path.{refl}
 use Rattle.rows.specs.Board.{board}
 use Rattle.sets.specs.Sums.{count}
 use Rattle.sets.specs.BoolLaws.{either}

@@ -1,11 +1,9 @@
 -- One tick of margin: an order that passes at every level with each C one tick longer is safe, for the C that are given, at every subdivision of the tick.
 -- First the work of a longer row, which holds that of the row itself and of its carry-in length one tick longer; then the caps; then the theorem.
 -- Assumes nothing.
-use Prim.Native.Nat.{ℕ, zero, suc, ◌+◌, ◌*◌, ◌-◌, ◌/◌, ◌≤◌, ◌<◌, min}
-use Rattle.std.specs.Prelude.{◌≡◌, ◌⊎◌, Bool, true, List, take, get_or}
-use Rattle.std.proofs.Common.{sym, ap, ◌∙◌, ⊎_elim, le_trans, lt_of_le_of_lt, mul_comm, mul_assoc, mul-le-mul, mul-le-mul_left, eq-or-lt_of_le, div-mul-le_self, lt_of_mul-lt-mul_right, le_of_lt}
+use Rattle.std.specs.Prelude.{ℕ, zero, suc, ◌+◌, ◌*◌, ◌-◌, ◌/◌, ◌≤◌, ◌<◌, min, ◌≡◌, ◌⊎◌, Bool, true, List, take, get_or}
+use Rattle.std.proofs.Common.{sym, ap, ◌∙◌, ⊎_elim, le_trans, lt_of_le_of_lt, mul_comm, mul_assoc, mul-le-mul, mul-le-mul_left, eq-or-lt_of_le, div-mul-le_self, lt_of_mul-lt-mul_right, le_of_lt, arith}
 use Rattle.std.proofs.Math.Logic.{inl, inr}
-use native.Mathlib.Omega.{arith}
 use Rattle.std.proofs.Math.Nat.{mul-lt-mul_of_pos_left, lt_of_mul-lt-mul_left, lt-div-mul-add, min-eq_left, min-eq_right, min-le_left, min-le_right}
 use Rattle.rows.specs.Board.{board}
 use Rattle.sets.specs.NumberLaws.{le_or_lt, div_mono}

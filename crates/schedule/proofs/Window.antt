@@ -1,14 +1,12 @@
 -- A job of a task that passes meets its deadline, where the jobs before it met theirs and the tasks above meet theirs.
 -- The window has the length D of task k and starts as in `CarryIn`, so it ends by the deadline of k's job. First what the tasks above k execute in the ticks that m of them fill, which is at most the interference; then how many such ticks a job that is not finished needs; then one job of the task (Deadlines has them all).
 -- Assumes nothing.
-use Prim.Native.Nat.{ℕ, zero, suc, ◌+◌, ◌*◌, ◌-◌, ◌≤◌, ◌<◌, max, zero-le}
-use Rattle.std.specs.Prelude.{◌≡◌, Bool, ◌&&◌}
-use Rattle.std.proofs.Math.Path.{refl}
-use Rattle.std.proofs.Math.Logic.{⊎_elim}
+use Rattle.std.specs.Prelude.{ℕ, zero, suc, ◌+◌, ◌*◌, ◌-◌, ◌≤◌, ◌<◌, max, ◌≡◌, Bool, ◌&&◌}
+use Rattle.std.proofs.Common.{zero-le, arith, le_refl, add-le-add, le_of_eq, add-suc, leb-true, le-leb}
 use Rattle.std.proofs.Math.Bool.{true, false}
-use native.Mathlib.Omega.{arith}
-use Rattle.std.proofs.Common.{le_refl, add-le-add, le_of_eq, add-suc, leb-true, le-leb}
+use Rattle.std.proofs.Math.Logic.{⊎_elim}
 use Rattle.std.proofs.Math.Nat.{le_trans}
+use Rattle.std.proofs.Math.Path.{refl}
 use Rattle.rows.specs.Board.{board}
 use Rattle.sets.specs.NumberLaws.{le_or_lt}
 use Rattle.sets.specs.Sums.{on, sum, count}

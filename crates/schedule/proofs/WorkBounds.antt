@@ -2,11 +2,10 @@
 -- First how a life is served, then the bound without carry-in, then the bound with it.
 -- Assumes nothing.
 use Rattle.std.specs.Prelude.{ℕ, zero, suc, ◌+◌, ◌*◌, ◌-◌, ◌/◌, ◌≤◌, ◌<◌, min, ◌≡◌, true, false}
-use Rattle.std.proofs.Common.{zero-le, le_refl, le_trans}
-use Rattle.std.proofs.Math.Path.{refl}
+use Rattle.std.proofs.Common.{zero-le, le_refl, le_trans, arith}
 use Rattle.std.proofs.Math.Logic.{⊎_elim}
-use native.Mathlib.Omega.{arith}
 use Rattle.std.proofs.Math.Nat.{div-mul-le_self, lt-div-mul-add}
+use Rattle.std.proofs.Math.Path.{refl}
 use Rattle.sets.specs.NumberLaws.{le_or_lt}
 use Rattle.sets.specs.BoolLaws.{either}
 use Rattle.sets.specs.SumLaws.{on_le, sum_upto}

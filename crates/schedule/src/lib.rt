@@ -1,2 +1,2 @@
-// What a legal schedule is, and that what passes is in time: specs/. There is no code.
+// What a legal schedule is: specs/. That what passes is in time: proofs/. There is no code.
 #![tactic(auto)]

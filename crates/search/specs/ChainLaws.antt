@@ -1,9 +1,8 @@
 -- Quota steps compose: steps one after the other make the tests of one run with their quotas together, the search in one call is their limit, and nonzero quotas finish within n(n+1)/2 tests in all.
 -- Assumes nothing.
 use Rattle.std.specs.Prelude.{ℕ, ◌+◌, ◌-◌, ◌≤◌, ◌≡◌, refl, Bool, true, List, [], ◌∷◌, length}
-use Rattle.std.proofs.Common.{zero-le, sym, ap₂, ◌∙◌, add-zero}
+use Rattle.std.proofs.Common.{zero-le, sym, ap₂, ◌∙◌, add-zero, arith}
 use Rattle.std.proofs.Math.Path.{ap}
-use native.Mathlib.Omega.{arith}
 use Rattle.search.specs.Search.{Progress, Run, fresh, finished, run, bound, search}
 use Rattle.search.specs.SearchLaws.{run_add, run_ends, run_bound, run_finished, fresh_potential, search_ends}
 

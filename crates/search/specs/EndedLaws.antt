@@ -1,8 +1,8 @@
 -- Laws of the search of any rows: what the code holds level by level, where it ends, and demand 3 of it.
 -- Assumes nothing.
 use Rattle.std.specs.Prelude.{ℕ, suc, ◌+◌, ◌≤◌, ◌<◌, min, ◌≡◌, Bool, true, false, List, [], ◌∷◌, ltb, length}
-use Rattle.std.proofs.Math.Path.{refl, fun_ext}
 use Rattle.std.proofs.Common.{sym, ap, ◌∙◌, ⊎_elim, arith, ltb-true, ltb-false}
+use Rattle.std.proofs.Math.Path.{refl, fun_ext}
 use Rattle.sets.specs.BoolLaws.{either, and_left}
 use Rattle.sets.specs.Sums.{count, first}
 use Rattle.sets.specs.SumLaws.{first_is}

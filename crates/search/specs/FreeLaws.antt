@@ -1,8 +1,8 @@
 -- Laws of the free rows: membership, one more row placed, and sets inside one another.
 -- Assumes nothing.
 use Rattle.std.specs.Prelude.{ℕ, ◌≡◌, refl, Bool, true, false, List, ◌∷◌, eqb}
-use Rattle.std.proofs.Math.Bool.{and-false}
 use Rattle.std.proofs.Common.{eq-eqb}
+use Rattle.std.proofs.Math.Bool.{and-false}
 use Rattle.sets.specs.BoolLaws.{and_not, not_and, or_right, same}
 use Rattle.sets.specs.Sets.{◌⊆◌}
 use Rattle.search.specs.Search.{elem, free}

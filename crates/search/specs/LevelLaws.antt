@@ -1,14 +1,12 @@
 -- Laws of a level: a scan of the free rows in table sequence makes the tests of a run up to the first that passes, and places that row.
 -- What a run leaves is its list and its tests; its last cursor, which one call does not hold, is left open.
 -- Assumes nothing.
-use Prim.Native.Nat.{ℕ, zero, suc, ◌+◌, ◌-◌, ◌≤◌, ◌<◌, min}
-use Rattle.std.specs.Prelude.{◌≡◌, Bool, true, false, cond, List, ◌∷◌, ltb}
-use Rattle.std.proofs.Math.Path.{refl}
-use Rattle.std.proofs.Common.{sym, ap, ◌∙◌, ⊎_elim, le_refl, zero-add, suc-add, add_comm, add_assoc}
-use native.Mathlib.Omega.{arith}
-use Rattle.std.proofs.Math.Numerals.{add-one}
+use Rattle.std.specs.Prelude.{ℕ, zero, suc, ◌+◌, ◌-◌, ◌≤◌, ◌<◌, min, ◌≡◌, Bool, true, false, cond, List, ◌∷◌, ltb}
+use Rattle.std.proofs.Common.{sym, ap, ◌∙◌, ⊎_elim, le_refl, zero-add, suc-add, add_comm, add_assoc, arith, le-leb, lt-ltb, le-ltb}
 use Rattle.std.proofs.Math.Dec.{leb}
-use borrow.Author.Tests.{le-leb, lt-leb, lt-ltb, le-ltb}
+use Rattle.std.proofs.Math.Numerals.{add-one}
+use Rattle.std.proofs.Math.Path.{refl}
+use Rattle.std.proofs.lemmas.Bool.{lt-leb}
 use Rattle.sets.specs.BoolLaws.{either}
 use Rattle.sets.specs.Sums.{on, count, first}
 use Rattle.sets.specs.SumLaws.{count_upto, first_is, first_taken, first_next, first_end}

@@ -1,13 +1,11 @@
 -- Orders: a search that places every row makes an order that passes at every level, and the other way round.
 -- Assumes nothing.
-use Rattle.std.specs.Prelude.{ℕ, suc, ◌+◌, ◌≤◌, ◌<◌, ◌≡◌, refl, ◌↔◌, Bool, false, eqb, length, take, drop, get_or}
-use Rattle.std.proofs.Common.{sym, ap, ◌∙◌, subst, arith, length-append}
-use Rattle.std.proofs.Math.Path.{fun_ext}
-use Rattle.std.proofs.Math.Logic.{⊎_elim}
+use Rattle.std.specs.Prelude.{ℕ, suc, ◌+◌, ◌≤◌, ◌<◌, ◌≡◌, refl, ◌↔◌, Bool, false, eqb, length, take, drop, get_or, List, [], ◌∷◌, ◌++◌}
+use Rattle.std.proofs.Common.{sym, ap, ◌∙◌, subst, arith, length-append, append_assoc, eqb-true, eq-eqb}
 use Rattle.std.proofs.Math.Bool.{true, and-true, and-false}
-use mathlib.Core.List.{List, [], ◌∷◌, ◌++◌, append_assoc}
+use Rattle.std.proofs.Math.Logic.{⊎_elim}
+use Rattle.std.proofs.Math.Path.{fun_ext}
 use Rattle.std.proofs.Math.Seq.{split_at, take-append_seam, get_or-append_seam}
-use borrow.Author.Tests.{eqb-true, eq-eqb}
 use Rattle.sets.specs.Sums.{times, on, sum, count}
 use Rattle.sets.specs.BoolLaws.{either, not_both}
 use Rattle.sets.specs.SumLaws.{on_le, on_true, on_false, sum_add, sum_zero, count_one, count_at}

@@ -1,14 +1,12 @@
 -- Laws of the search: what it reaches is a search free in its choices, what is finished is stuck, how many tests it makes, and how runs compose.
 -- Assumes nothing.
-use Rattle.std.specs.Prelude.{ℕ, zero, suc, ◌+◌, ◌*◌, ◌-◌, ◌≤◌, ◌<◌, ◌≡◌, Bool, ◌&&◌}
-use Rattle.std.proofs.Common.{zero-le, ap, le_refl, le_of_suc-le-suc, eq-or-lt_of_le, zero-add, suc-add, le-div_iff_mul-le, zero-lt-suc}
-use Rattle.std.proofs.Math.Path.{refl}
-use Rattle.std.proofs.Math.Logic.{⊎_elim}
+use Rattle.std.specs.Prelude.{ℕ, zero, suc, ◌+◌, ◌*◌, ◌-◌, ◌≤◌, ◌<◌, ◌≡◌, Bool, ◌&&◌, List, [], ◌∷◌}
+use Rattle.std.proofs.Common.{zero-le, ap, le_refl, le_of_suc-le-suc, eq-or-lt_of_le, zero-add, suc-add, le-div_iff_mul-le, zero-lt-suc, arith, leb-true, leb-false, le-leb}
 use Rattle.std.proofs.Math.Bool.{true, false}
-use mathlib.Core.List.{List, [], ◌∷◌}
-use native.Mathlib.Omega.{arith}
 use Rattle.std.proofs.Math.Dec.{leb}
-use borrow.Author.Tests.{leb-true, leb-false, le-leb, lt-leb}
+use Rattle.std.proofs.Math.Logic.{⊎_elim}
+use Rattle.std.proofs.Math.Path.{refl}
+use Rattle.std.proofs.lemmas.Bool.{lt-leb}
 use Rattle.sets.specs.Sums.{on, count}
 use Rattle.sets.specs.BoolLaws.{either, not_both, and_in, and_left, and_right}
 use Rattle.sets.specs.SumLaws.{first_is, sum_mono, sum_less, on_mono, count_mono, count_le}

@@ -1,16 +1,14 @@
 -- Laws of quota steps: one probe of the code, where a run of probes stands and how it ends, the answer by the check that decides it, and what it is held to.
 -- Assumes nothing.
-use Prim.Native.Nat.{ℕ, zero, suc, ◌+◌, ◌-◌, ◌≤◌, ◌<◌}
-use Rattle.std.specs.Prelude.{◌≡◌, ◌⊎◌, Bool, length}
-use Rattle.std.proofs.Math.Path.{refl, sym, ap, ap₂, fun_ext, subst}
-use Rattle.std.proofs.Common.{◌∙◌, inl, inr, add-one}
-use Rattle.std.proofs.Math.Logic.{⊎_elim}
+use Rattle.std.specs.Prelude.{ℕ, zero, suc, ◌+◌, ◌-◌, ◌≤◌, ◌<◌, ◌≡◌, ◌⊎◌, Bool, length, List, [], ◌∷◌}
+use Rattle.std.proofs.Common.{◌∙◌, inl, inr, add-one, arith, eqb-true, eq-eqb, ne_eqb, le-leb, ltb-true}
 use Rattle.std.proofs.Math.Bool.{true, false}
-use mathlib.Core.List.{List, [], ◌∷◌}
-use native.Mathlib.Omega.{arith}
-use Rattle.std.proofs.Math.Nat.{sub-zero}
 use Rattle.std.proofs.Math.Dec.{eqb}
-use borrow.Author.Tests.{eqb-true, eq-eqb, ne_eqb, eqb-false, le-leb, lt-leb, ltb-true}
+use Rattle.std.proofs.Math.Logic.{⊎_elim}
+use Rattle.std.proofs.Math.Nat.{sub-zero}
+use Rattle.std.proofs.Math.Path.{refl, sym, ap, ap₂, fun_ext, subst}
+use Rattle.std.proofs.lemmas.Bool.{eqb-false}
+use Rattle.std.proofs.lemmas.Bool.{lt-leb}
 use Rattle.sets.specs.Sums.{first}
 use Rattle.sets.specs.SumLaws.{count_at}
 use Rattle.sets.specs.BoolLaws.{either}

@@ -2,8 +2,8 @@
 -- Assumes nothing.
 use Rattle.std.specs.Prelude.{ℕ, suc, ◌+◌, ◌-◌, ◌≤◌, ◌<◌, ◌≡◌, true, false, List, eqb, length, get_or, set, replicate}
 use Rattle.std.proofs.Common.{sym, ◌∙◌, ⊎_elim, arith, ne_of_lt, length-set, get_or-set_same, get_or-set_other, eqb-true}
-use Rattle.std.proofs.lemmas.List.{length-replicate, get_or-replicate}
 use Rattle.std.proofs.lemmas.Bool.{eqb-false}
+use Rattle.std.proofs.lemmas.List.{length-replicate, get_or-replicate}
 use Rattle.sets.specs.BoolLaws.{either, not_both}
 use Rattle.sets.specs.NumberLaws.{below_next}
 use Rattle.sets.specs.PassLaws.{Pass, next, next_from, pass_start, pass_next, pass_here, pass_end}

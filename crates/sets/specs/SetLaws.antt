@@ -3,14 +3,14 @@
 -- Assumes nothing.
 use Rattle.std.specs.Prelude.{ℕ, zero, suc, ◌+◌, ◌*◌, ◌-◌, ◌/◌, ◌%◌, ◌^◌, ◌≤◌, ◌<◌, max, min, ◌≡◌, refl, ◌↔◌, Bool, true, false, cond, not, ◌||◌, ◌&&◌, eqb, ltb}
 use Rattle.std.proofs.Common.{zero-le, sym, ap, ap₂, ◌∙◌, ⊎_elim, arith, add-one, add_comm, div-one, mod-lt, zero-lt-suc, add-zero, zero-add, suc-add, pow-suc, one-mul, mul-div_cancel, eq-or-lt_of_le, le_of_suc-le-suc, le_refl, lt_of_lt_of_le, ne_of_lt, pow_mono, pow-add, pow_pos, shr-shr, shr_lt, shl_exact, ltb-true, ltb-false, eqb-true, eq-eqb, ne_eqb, lt-ltb}
-use Rattle.std.proofs.Math.Path.{fun_ext}
-use Rattle.std.proofs.Math.Bool.{and-true, and-false}
-use Rattle.std.proofs.Math.Nat.{div-eq_of_lt, mul-mod_left, two-pow-succ}
-use Rattle.std.proofs.Math.Dec.{leb-suc-zero, leb-suc-suc, eqb-zero-suc, eqb-suc-zero, eqb-suc-suc}
 use Rattle.std.proofs.Math.Arith.{digits_mod, digits_div, digits_lt, lt-one}
+use Rattle.std.proofs.Math.Bool.{and-true, and-false}
+use Rattle.std.proofs.Math.Dec.{leb-suc-zero, leb-suc-suc, eqb-zero-suc, eqb-suc-zero, eqb-suc-suc}
+use Rattle.std.proofs.Math.Nat.{div-eq_of_lt, mul-mod_left, two-pow-succ}
+use Rattle.std.proofs.Math.Path.{fun_ext}
 use Rattle.std.proofs.Math.Pow.{pow-lt}
-use Rattle.std.specs.Int.Bits.{bit_or, or_step, block_odd, block_half}
 use Rattle.std.proofs.lemmas.Nat.{or_shr, ones_cat}
+use Rattle.std.specs.Int.Bits.{bit_or, or_step, block_odd, block_half}
 use Rattle.std.specs.Int.Count.{ones, ones_step, count_trailing_zeros, under}
 use Rattle.sets.specs.BoolLaws.{either, not_both, and_swap, and_not, not_and}
 use Rattle.sets.specs.Sums.{on, sum, count, first}

@@ -1,4 +1,4 @@
--- `in_range` makes the four comparisons of `inRange` in their order, and leaves at the first that fails.
+-- `in_range` makes the four comparisons of its definition in their order, and leaves at the first that fails.
 -- Each return rewrites the definition with the comparisons that led there. Assumes nothing.
 use Rattle.std.specs.Prelude.{refl}
 use Rattle.std.proofs.Common.{le-leb}

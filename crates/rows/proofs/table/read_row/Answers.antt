@@ -1,5 +1,5 @@
 -- Past the last whole row the T of the definition reads as 0, which is out of range; before it the three words are read as the definition reads them.
--- The answer then goes by `in_range`, as the definition goes by `inRange`. Assumes nothing.
+-- The answer then goes by `in_range`, as the definition goes by its own. Assumes nothing.
 use Rattle.std.proofs.Common.{sym, ◌∙◌}
 use Rattle.rows.proofs.TableLaws.{past_fault, read_in_range, read_out_of_range}
 use Rattle.rows.proofs.table.read_row.Goals as goal
