@@ -14,7 +14,7 @@ loop-i-init c =
 pub overflow_sub-sums : goal.overflow_sub-sums
 overflow_sub-sums c =
     let row = rw c.requires.0 at c.loop-i-test.true in
-    omega (arith, c.plain.ensures, taking_fits _ c.loop-i.invariant row c.if-is_known.true)
+    omega (arith, c.plain.ensures, taking_fits _ c.loop-i.invariant row (omega arith))
 
 pub loop-i-smaller : goal.loop-i-smaller
 loop-i-smaller c = omega (arith, c.next-i-in-loop-i.ensures, next_from (has c.without-rest.result) (c.loop-i.i + 1))
