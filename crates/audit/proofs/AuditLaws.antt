@@ -20,7 +20,7 @@ use Rattle.search.specs.FreeLaws.{free_in}
 use Rattle.search.specs.DemandLaws.{search_truth, rows_count, rows_below_lem}
 use Rattle.search.proofs.CallLaws.{placed_most, found_short, found_blocked, found_done, found_demanded}
 use Rattle.search.specs.declared.call.Found.{Found}
-use Rattle.audit.specs.Audit.{is_order, lowest_failing, is_group, lowest_passing, order_checked_of, group_checked_of}
+use Rattle.audit.specs.Audit.{OrderChecked, GroupChecked, is_order, lowest_failing, is_group, lowest_passing, order_checked_of, group_checked_of}
 use Rattle.sets.specs.SumLaws.{count_zero_iff}
 use Rattle.sets.specs.SetLaws.{size_zero_iff}
 use Rattle.rows.specs.Board.{Board, board_of}
@@ -29,8 +29,6 @@ use Rattle.test.proofs.TestLaws.{passes_antitone}
 use Rattle.test.specs.Test.{passes}
 use Rattle.audit.proofs.OrderLaws.{is_order_iff, LowestFails, lowest_none_iff, lowest_some, lowest_exceeds, order_malformed, order_levels, levels_done, levels_fails}
 use Rattle.audit.proofs.GroupLaws.{Group, is_group_iff, LowestPasses, lowest_passes, none_passes_iff, group_malformed, group_member, group_done}
-use Rattle.audit.specs.declared.orders.OrderChecked.{OrderChecked}
-use Rattle.audit.specs.declared.groups.GroupChecked.{GroupChecked}
 
 module _ (words : List ℕ) (terms : Terms) (passed : (table_fault words terms.m).number ≡ done) where
   abbrev b : Board
@@ -40,7 +38,7 @@ module _ (words : List ℕ) (terms : Terms) (passed : (table_fault words terms.m
 
   module _ (o : List ℕ) where
     -- no order, an order that passes at every level, or one that fails at the level named
-    order_cases : ((order_checked_of words terms o).number ≡ malformed)
+    pub order_cases : ((order_checked_of words terms o).number ≡ malformed)
         ⊎ (((order_checked_of words terms o).number ≡ done) × Order (rows_below (row_count words)) o × Passing (passes b) o)
         ⊎ (((order_checked_of words terms o).number ≡ order_fails) × Order (rows_below (row_count words)) o
         × LowestFails (passes b) o (length o) (order_checked_of words terms o).level
@@ -96,7 +94,7 @@ module _ (words : List ℕ) (terms : Terms) (passed : (table_fault words terms.m
 
   module _ (group : Set) where
     -- no group, a blocked group, or one of which the member named passes
-    group_cases : ((group_checked_of words terms group).number ≡ malformed)
+    pub group_cases : ((group_checked_of words terms group).number ≡ malformed)
         ⊎ (((group_checked_of words terms group).number ≡ done) × Group (row_count words) group
         × Blocked (rows_below (row_count words)) (passes b) (has group))
         ⊎ (((group_checked_of words terms group).number ≡ member_passes) × Group (row_count words) group

@@ -105,16 +105,16 @@ module _ (words : List ℕ) (terms : Terms) (group : Set) where
     group_malformed e = judge_passed words terms.m form group_refusal (member_answer (row_count words) lowest) passed ∙ rw e refl
 
     module _ (formed : is_group (row_count words) group ≡ true) where
+      -- the work
+      pub group_members : group_checked_of words terms group ≡ member_answer (row_count words) lowest
+      unfolding group_checked_of form
+      group_members =
+          judge_passed words terms.m form group_refusal (member_answer (row_count words) lowest) passed ∙ rw formed refl
+
       -- 14
       pub group_member : lowest < row_count words → group_checked_of words terms group ≡ group_refusal member_passes lowest
-      unfolding group_checked_of form
-      group_member l =
-          judge_passed words terms.m form group_refusal (member_answer (row_count words) lowest) passed
-          ∙ rw (formed, lt-ltb lowest (row_count words) l) refl
+      group_member l = group_members ∙ rw (lt-ltb lowest (row_count words) l) refl
 
       -- 0
       pub group_done : row_count words ≤ lowest → group_checked_of words terms group ≡ group_refusal done 0
-      unfolding group_checked_of form
-      group_done l =
-          judge_passed words terms.m form group_refusal (member_answer (row_count words) lowest) passed
-          ∙ rw (formed, le-ltb lowest (row_count words) l) refl
+      group_done l = group_members ∙ rw (le-ltb lowest (row_count words) l) refl

@@ -1,3 +1,4 @@
 pub mod GroupLaws
 pub mod OrderLaws
 pub mod AuditLaws
+pub mod ToldLaws

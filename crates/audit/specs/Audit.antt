@@ -13,8 +13,6 @@ use Rattle.test.specs.Test.{used, passes}
 use Rattle.search.specs.Demand.{among}
 use Rattle.search.specs.State.{distinct}
 use Rattle.search.specs.Answers.{passing}
-use Rattle.audit.specs.declared.orders.OrderChecked.{OrderChecked}
-use Rattle.audit.specs.declared.groups.GroupChecked.{GroupChecked}
 
 -- ---- orders
 
@@ -31,6 +29,13 @@ lowest_of test o (suc j) = let higher = lowest_of test o j in cond (test (among 
 
 abbrev pub lowest_failing : ((ℕ → Bool) → ℕ → Bool) → List ℕ → ℕ
 lowest_failing test o = lowest_of test o (length o)
+
+-- what the check of an order answers: the number, with 3 the lowest row at fault, with 6 the lowest level that fails and its used
+pub record OrderChecked : Type 0 where
+  pub number : ℕ
+  pub row : ℕ
+  pub level : ℕ
+  pub used : ℕ
 
 -- the answer where no level fails, and where level suc j is the lowest that does
 abbrev pub level_answer : Board → List ℕ → ℕ → OrderChecked
@@ -58,6 +63,11 @@ is_group n group = ltb 0 (size group) && within group n
 -- the lowest member that passes with the other members above it; n where none does
 abbrev pub lowest_passing : ((ℕ → Bool) → ℕ → Bool) → ℕ → Set → ℕ
 lowest_passing test n group = first (passing test (has group)) n 0
+
+-- what the check of a group answers: the number, with 3 the lowest row at fault, with 14 the lowest member that passes
+pub record GroupChecked : Type 0 where
+  pub number : ℕ
+  pub row : ℕ
 
 abbrev pub group_refusal : ℕ → ℕ → GroupChecked
 group_refusal number place = record { number = number; row = place }

@@ -4,5 +4,5 @@
 mod groups;
 mod orders;
 
-pub use groups::{GroupChecked, check_group};
-pub use orders::{OrderChecked, check_order};
+pub use groups::check_group;
+pub use orders::{Failing, check_order};

@@ -12,8 +12,7 @@ use Rattle.rows.specs.Numbers.{done}
 use Rattle.sets.specs.Sums.{first}
 use Rattle.sets.specs.SumLaws.{first_is}
 use Rattle.sets.specs.SetLaws.{FitsWords}
-use Rattle.rows.specs.Table.{in_range, words_at, faulty, row_count, first_fault, table_checks, table_fault}
-use Rattle.rows.specs.declared.table.Checked.{Checked}
+use Rattle.rows.specs.Table.{Checked, in_range, words_at, faulty, row_count, first_fault, table_checks, table_fault}
 use Rattle.rows.proofs.TableLaws.{passed_valid, in_range_lem, fault_none}
 use Rattle.rows.specs.JudgeLaws.{Passed, append_passed, Refusing, refusing_append, done_passed, judge_works}
 use Rattle.book.specs.Bytes.{byte, big, sum16, check_of, run}
@@ -22,17 +21,14 @@ use Rattle.book.specs.Form.{formed}
 use Rattle.book.specs.FormLaws.{formed_group}
 use Rattle.book.specs.Layout.{edition_one, Content, blocks, opened, sealed, at, book_of}
 use Rattle.book.specs.LayoutLaws.{one_fits, book_length, sealed_check}
-use Rattle.book.specs.Write.{content_of, book_checks, write_checks, write_of, write_into}
+use Rattle.book.specs.Write.{BookWritten, content_of, book_checks, write_checks, write_of, write_into}
 use Rattle.book.proofs.WriteLaws.{write_done}
-use Rattle.book.specs.Read.{of_block, content, verdict_of, checked, each_block, block_checks, head_checks, body_checks, spelled, read_checks, refused, taken, read_of, read_into}
-use Rattle.book.specs.Fault.{fault_of}
+use Rattle.book.specs.Read.{BookRead, of_block, content, verdict_of, checked, each_block, block_checks, head_checks, body_checks, spelled, read_checks, refused, taken, read_of, read_into}
+use Rattle.book.specs.Fault.{Clear, fault_of}
 use Rattle.book.specs.FaultLaws.{passed_clear}
 use Rattle.book.proofs.ReadLaws.{content_count, table_length, lowest_bad_lem, Readable, readable, read_taken, into_taken}
 use Rattle.book.proofs.BackLaws.{Legal, content_back, checks_back}
-use Rattle.book.specs.declared.checks.Fault.TheVariants.{Clear}
 use Rattle.book.specs.declared.verdicts.Verdict.{Verdict}
-use Rattle.book.specs.declared.writing.BookWritten.{BookWritten}
-use Rattle.book.specs.declared.reading.BookRead.{BookRead}
 
 -- ---- a check of 0
 

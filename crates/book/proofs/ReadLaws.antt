@@ -1,24 +1,23 @@
 -- Laws of reading's checks: the blocks one at a time, what the checks leave known, and the words of the table.
 -- Assumes nothing.
-use Rattle.std.specs.Prelude.{ℕ, zero, suc, ◌+◌, ◌-◌, ◌*◌, ◌/◌, ◌%◌, ◌≤◌, ◌<◌, ◌≡◌, Bool, true, false, cond, ◌&&◌, List, ◌++◌, eqb, leb, length, get_or, drop}
-use Rattle.std.proofs.Common.{zero-le, sym, ap, ◌∙◌, ⊎_elim, arith, add-one, eq-or-lt_of_le, zero-add, eqb-true, leb-true}
+use Rattle.std.specs.Prelude.{ℕ, zero, suc, ◌+◌, ◌-◌, ◌*◌, ◌/◌, ◌%◌, ◌≤◌, ◌<◌, ◌≡◌, Bool, true, false, cond, ◌&&◌, Some, None, List, [], ◌++◌, eqb, leb, length, get_or, drop}
+use Rattle.std.proofs.Common.{zero-le, sym, ap, ◌∙◌, ⊎_elim, arith, add-one, eq-or-lt_of_le, zero-add, append_assoc, eqb-true, leb-true}
 use Rattle.std.proofs.Math.Path.{refl}
+use Rattle.std.specs.Simd.{first_chunks}
 use Rattle.sets.specs.BoolLaws.{and_left, and_right}
 use Rattle.sets.specs.Sums.{first}
 use Rattle.rows.specs.Table.{in_range, words_at, read_at, faulty}
 use Rattle.rows.specs.declared.table.Row.{Row}
-use Rattle.rows.specs.declared.table.RowRead.TheVariants.{Fine, Fault}
 use Rattle.rows.specs.Judge.{Check}
 use Rattle.rows.specs.JudgeLaws.{Passed, append_passed}
-use Rattle.book.specs.Bytes.{big}
-use Rattle.book.specs.ByteLaws.{run_at, run_length}
-use Rattle.book.specs.Fault.{fault_of}
+use Rattle.book.specs.Bytes.{big, check_of}
+use Rattle.book.specs.ByteLaws.{run_at, run_length, chunk_at, big_ext, check_ext}
+use Rattle.book.specs.Fault.{At, Clear, fault_of}
 use Rattle.book.specs.FaultLaws.{judge_told, fault_first, fault_next}
 use Rattle.book.specs.Form.{formed}
 use Rattle.book.specs.Layout.{Edition, edition_one, longest}
 use Rattle.book.specs.Known.{Sealed, Headed}
-use Rattle.book.specs.Read.{place, word_at, verdict_of, content, whole, numbered, checked, each_block, spelled, lowest_bad, block_checks, head_checks, body_checks, read_checks, refused, taken, read_of, read_into}
-use Rattle.book.specs.declared.checks.Fault.TheVariants.{At, Clear}
+use Rattle.book.specs.Read.{of_block, place, word_at, verdict_of, content, whole, numbered, checked, each_block, spelled, lowest_bad, block_checks, head_checks, body_checks, read_checks, refused, taken, read_of, read_into}
 
 -- ---- the blocks, one at a time
 
@@ -34,6 +33,20 @@ module _ (b : List ℕ) (n k : ℕ) (l : k < n) where
 
   pub good_block : numbered b k ≡ true → checked b k ≡ true → fault_of (each_block b k (n - k)) ≡ fault_of (each_block b (k + 1) (n - (k + 1)))
   good_block p q = next ∙ rw (p, q, add-one k) refl
+
+-- block k of the book, where the book is cut into blocks
+module _ (b : List ℕ) (blocks : List (List ℕ)) (k : ℕ) (cut : blocks ≡ first_chunks 512 (length b / 512) b) (l : k < length b / 512) where
+  byte_in : (t : ℕ) → t < 512 → get_or (get_or blocks k []) t 0 ≡ of_block b k t
+  byte_in t h = ap (λ (l : List (List ℕ)). get_or (get_or l k []) t 0) cut ∙ chunk_at 512 (length b / 512) b k t l h
+
+  pub numbered_in : eqb (big 2 (λ t. get_or (get_or blocks k []) t 0)) k ≡ numbered b k
+  unfolding numbered
+  numbered_in = ap (λ (n : ℕ). eqb n k) (big_ext 2 _ _ (λ t h. byte_in t (omega arith)))
+
+  pub checked_in : eqb (big 2 (λ t. get_or (get_or blocks k []) (510 + t) 0)) (check_of (λ p. get_or (get_or blocks k []) p 0)) ≡ checked b k
+  unfolding checked
+  checked_in =
+      rw (big_ext 2 _ (λ t. of_block b k (510 + t)) (λ t h. byte_in (510 + t) (omega arith)), check_ext _ (of_block b k) (λ p h. byte_in p (omega arith))) refl
 
 -- ---- what the checks leave known
 
@@ -97,7 +110,7 @@ word_row b i t p h e = ap (λ (x : ℕ). big 4 (λ s. get_or b (x + s) 0)) (e �
 -- a row is read by its words
 pub read_ext : (t u : List ℕ) (i j : ℕ) → words_at t i ≡ words_at u j → read_at t i ≡ read_at u j
 unfolding read_at
-read_ext t u i j e = ap (λ (r : Row). cond (in_range r) (Fine r) Fault) e
+read_ext t u i j e = ap (λ (r : Row). cond (in_range r) (Some r) None) e
 
 pub table_length : (e : Edition) (b : List ℕ) → length (content e b).table ≡ e.words * get_or b 4 0
 unfolding content
@@ -143,25 +156,22 @@ readable b room h =
       space = leb-true (3 * x.n) room body.1.1.0;
     }
 
--- the first fault of the three lists, one after the other
+-- the first fault of the lists, one after the other: that of the blocks and of the head, and that of the body
+abbrev pub head : List ℕ → List Check
+head b = head_checks edition_one (content edition_one b) b
+
+abbrev pub outer : List ℕ → List Check
+outer b = block_checks b ++ head b
+
 module _ (b : List ℕ) (room : ℕ) where
-  abbrev pub outer : List Check
-  outer = block_checks b
-
-  abbrev pub head : List Check
-  head = head_checks edition_one (content edition_one b) b
-
   abbrev pub body : List Check
   body = body_checks edition_one (content edition_one b) b room
 
-  pub outer_fault : (i p : ℕ) → fault_of outer ≡ At i p → fault_of (read_checks edition_one b room) ≡ At i p
-  outer_fault i p h = fault_first outer (head ++ body) i p h
+  pub outer_fault : (i p : ℕ) → fault_of (outer b) ≡ At i p → fault_of (read_checks edition_one b room) ≡ At i p
+  outer_fault i p h = ap fault_of (sym (append_assoc (block_checks b) (head b) body)) ∙ fault_first (outer b) body i p h
 
-  pub head_fault : (i p : ℕ) → fault_of outer ≡ Clear → fault_of head ≡ At i p → fault_of (read_checks edition_one b room) ≡ At i p
-  head_fault i p o h = fault_next outer (head ++ body) o ∙ fault_first head body i p h
-
-  pub body_fault : fault_of outer ≡ Clear → fault_of head ≡ Clear → fault_of (read_checks edition_one b room) ≡ fault_of body
-  body_fault o h = fault_next outer (head ++ body) o ∙ fault_next head body h
+  pub body_fault : fault_of (outer b) ≡ Clear → fault_of (read_checks edition_one b room) ≡ fault_of body
+  body_fault h = ap fault_of (sym (append_assoc (block_checks b) (head b) body)) ∙ fault_next (outer b) body h
 
 -- the answer and the lent words by the first fault
 module _ (b : List ℕ) where

@@ -1,22 +1,22 @@
 -- What the code tests for 13: a book whose blocks have their numbers and checks is what writing its content gives exactly where every spare byte is zero;
 -- and the spare bytes of a block are one run.
 -- Assumes nothing.
-use Rattle.std.specs.Prelude.{ℕ, zero, suc, ◌+◌, ◌-◌, ◌*◌, ◌/◌, ◌%◌, ◌≤◌, ◌<◌, ◌≡◌, false, cond, ◌&&◌, List, [], ◌∷◌, leb}
-use Rattle.std.proofs.Common.{◌∙◌, zero-add, mul_comm, div-one, add-one, arith, eqb-true, eq-eqb, lt-ltb, le-ltb, le-leb}
+use Rattle.std.specs.Prelude.{ℕ, zero, suc, ◌+◌, ◌-◌, ◌*◌, ◌/◌, ◌%◌, ◌≤◌, ◌<◌, ◌≡◌, false, cond, ◌&&◌, List, [], ◌∷◌, leb, take, drop}
+use Rattle.std.proofs.Common.{◌∙◌, zero-add, mul_comm, div-one, arith, eqb-true, eq-eqb, lt-ltb, le-ltb, le-leb}
 use Rattle.std.proofs.Math.Arith.{digits_div, digits_mod}
 use Rattle.std.proofs.Math.Bool.{Bool, true}
 use Rattle.std.proofs.Math.Dec.{eqb}
 use Rattle.std.proofs.Math.ListN.{length, get_or, get_or-eq_default}
 use Rattle.std.proofs.Math.Logic.{⊎_elim}
 use Rattle.std.proofs.Math.Path.{refl, sym, ap}
-use Rattle.std.specs.Int.Bits.{bit_or}
+use Rattle.std.specs.List.{list_all, range_with_len}
 use Rattle.std.proofs.lemmas.Bool.{lt-leb}
 use Rattle.sets.specs.BoolLaws.{either, not_both}
 use Rattle.rows.specs.Judge.{Check, check, check_at}
 use Rattle.rows.specs.Numbers.{row_range, short_output, book_field}
 use Rattle.sets.specs.Sets.{word}
 use Rattle.book.specs.Bytes.{byte, big, little, check_of, all}
-use Rattle.book.specs.ByteLaws.{run_length, run_at, all_at, all_make, all_from, or_none, side, check_ext, check_fits, byte_little, byte_big, byte_low, byte_high, byte_none, little_lt}
+use Rattle.book.specs.ByteLaws.{run_length, run_at, all_at, all_make, all_part, all_from, all_next, side, check_ext, check_fits, byte_little, byte_big, byte_low, byte_high, byte_none, little_lt}
 use Rattle.book.specs.Fault.{fault_of}
 use Rattle.book.specs.Form.{formed}
 use Rattle.book.specs.Layout.{Edition, edition_one, longest, head, inner, opened, sealed, at}
@@ -213,17 +213,13 @@ module _ (e : Edition) (f : Fit e) (b : List ℕ) (bytes : (i : ℕ) → get_or 
         (either (spelled e (content e b) b)))
         (either (zeros e (get_or b 4 0) b))
 
--- ---- bytes that are zero by their bits together
-
-pub blank_none : (b : List ℕ) (from : ℕ) → eqb 0 0 ≡ blank b from 0
-unfolding blank
-blank_none b from = refl
-
-pub blank_more : (b : List ℕ) (from t bits : ℕ) → eqb bits 0 ≡ blank b from t → eqb (bit_or bits (get_or b (from + t) 0)) 0 ≡ blank b from (t + 1)
-unfolding blank
-blank_more b from t bits h = rw (add-one t, ← h) (or_none bits (get_or b (from + t) 0))
-
 -- ---- the spare bytes of a block as a run
+
+-- a part of the book is such a run
+pub blank_part : (b : List ℕ) (from n : ℕ) → from + n ≤ length b
+    → all (length (take n (drop from b))) (λ t. eqb (get_or (take n (drop from b)) t 0) 0) ≡ blank b from n
+unfolding blank
+blank_part b from n h = all_part 0 from n b h
 
 -- block 0: what stands behind the group
 pub head_blank : (n : ℕ) (b : List ℕ) → zero_block edition_one n b 0 ≡ blank b 114 396
@@ -259,6 +255,14 @@ module _ (n k count : ℕ) (few : count ≤ 126) (most : 126 * k + count ≤ 3 *
       (λ t l.
       let e : 512 * suc k + (2 + (4 * count + t)) ≡ from + t = omega arith in
       rw (rest_spare (4 * count + t) (omega arith), e) refl)
+
+-- every block: block 0, and then the row blocks one after the other
+pub zeros_listed : (n count : ℕ) (b : List ℕ) → length b / 512 ≡ 1 + count
+    → blank b 114 396 && list_all (λ k. zero_block edition_one n b (k + 1)) (range_with_len 0 count) ≡ zeros edition_one n b
+unfolding zeros
+zeros_listed n count b e =
+    let size : length b / 512 ≡ suc count = omega (arith, e) in
+    rw (size, ← head_blank n b) (sym (all_next count (zero_block edition_one n b)))
 
 -- ---- 13, and the checks of the body
 

@@ -12,9 +12,8 @@ use Rattle.rows.proofs.TableLaws.{judge_refused, judge_passed}
 use Rattle.book.specs.Form.{formed}
 use Rattle.book.specs.Layout.{edition_one, blocks, book_of}
 use Rattle.book.specs.LayoutLaws.{book_length}
-use Rattle.book.specs.Write.{content_of, book_checks, write_checks, write_of, write_into}
+use Rattle.book.specs.Write.{BookWritten, content_of, book_checks, write_checks, write_of, write_into}
 use Rattle.book.specs.declared.verdicts.Verdict.{Verdict}
-use Rattle.book.specs.declared.writing.BookWritten.{BookWritten}
 
 -- a refusal: its number and row, and the bytes as they were
 abbrev pub Refused : List ℕ → ℕ → Verdict → List ℕ → ℕ → ℕ → Type 0

@@ -1,19 +1,19 @@
 -- Laws of storing a book block by block: a block is its number, what stands behind it and its check, and the blocks one after the other are the book.
 -- Assumes nothing.
 use Rattle.std.specs.Prelude.{ℕ, zero, suc, ◌+◌, ◌-◌, ◌*◌, ◌/◌, ◌%◌, ◌≤◌, ◌<◌, ◌≡◌, true, false, List, [], ◌∷◌, ◌++◌, length, get_or, drop}
-use Rattle.std.proofs.Common.{ap, ◌∙◌, arith, lt-ltb, ltb-true}
+use Rattle.std.proofs.Common.{ap, ◌∙◌, arith, zero-add, lt-ltb, ltb-true}
 use Rattle.std.proofs.Math.Dec.{ltb}
 use Rattle.std.proofs.Math.ListN.{get_or-eq_default}
 use Rattle.std.proofs.Math.Logic.{⊎_elim}
 use Rattle.std.proofs.Math.Path.{refl, sym}
 use Rattle.sets.specs.BoolLaws.{either}
 use Rattle.sets.specs.Sets.{word}
-use Rattle.book.specs.Bytes.{byte, check_of}
+use Rattle.book.specs.Bytes.{byte, check_of, run}
 use Rattle.book.specs.ByteLaws.{check_ext, byte_none}
 use Rattle.book.specs.Layout.{Edition, edition_one, Content, blocks, inner, opened, sealed, at, book_of}
 use Rattle.book.specs.LayoutLaws.{book_length, book_at, sealed_open, sealed_check, opened_inner, at_block, head_order, head_group, head_more}
 use Rattle.book.specs.Parts.{stored}
-use Rattle.book.specs.PartsLaws.{stored_ext, stored_more, stored_at, stored_all}
+use Rattle.book.specs.PartsLaws.{stored_ext, stored_more, stored_at, stored_all, stored_whole}
 
 -- ---- a block
 
@@ -46,6 +46,16 @@ module _ (e : Edition) (x : Content) (k from : ℕ) (o₀ o₁ o₂ o₃ : List 
       ∙ ap (stored (from + 510) 2 (λ t. byte (1 - t) c))
       (opened_made ∙ stored_ext from 510 (opened e x k) (sealed e x k) o₀ (λ t l. sym (sealed_open e x k t l)))
       ∙ stored_more from 510 2 (sealed e x k) (λ t. byte (1 - t) c) o₀ last
+
+-- a block by itself is the run of its bytes
+pub block_whole : (e : Edition) (x : Content) (k : ℕ) (o₀ o₁ o₂ o₃ : List ℕ) → length o₀ ≡ 512 → o₁ ≡ stored 0 2 (λ t. byte (1 - t) k) o₀
+    → o₂ ≡ stored 2 508 (inner e x k) o₁ → o₃ ≡ stored 510 2 (λ t. byte (1 - t) (check_of (λ p. get_or o₂ p 0))) o₂ → o₃ ≡ run 0 512 (sealed e x k)
+block_whole e x k o₀ o₁ o₂ o₃ size number body check =
+    let same : check_of (λ p. get_or o₂ p 0) ≡ check_of (λ p. get_or o₂ (0 + p) 0) =
+    check_ext _ _ (λ p l. ap (λ (i : ℕ). get_or o₂ i 0) (sym (zero-add p)))
+    in
+    block_made e x k 0 o₀ o₁ o₂ o₃ (omega arith) number body (check ∙ ap (λ (v : ℕ). stored 510 2 (λ t. byte (1 - t) v) o₂) same)
+    ∙ stored_whole 512 (sealed e x k) o₀ size
 
 -- ---- what stands behind the number
 

@@ -1,14 +1,14 @@
--- Laws of two numbers, of runs, of tests of all numbers, of bits together, of the sum and the check, and of numbers as bytes, in this order.
+-- Laws of two numbers, of runs, of tests of all numbers, of the sum and the check, and of numbers as bytes, in this order.
 -- Assumes nothing.
-use Rattle.std.specs.Prelude.{ℕ, zero, suc, ◌+◌, ◌-◌, ◌*◌, ◌/◌, ◌%◌, ◌^◌, ◌≤◌, ◌<◌, ◌≡◌, refl, ◌⊎◌, Bool, true, false, ◌&&◌, List, [], ◌∷◌, ltb, eqb, length, get_or}
-use Rattle.std.proofs.Common.{zero-le, ap₂, ◌∙◌, inl, inr, ⊎_elim, arith, le_refl, add-zero, mod-eq_of_lt, div-one, div-lt_iff_lt-mul, pow-suc, mul_comm, zero-lt-suc, eq-or-lt_of_le, le_of_suc-le-suc, mul_assoc, zero-add, suc-add, lt_of_not-le, add-one, lt-ltb, le-ltb, ltb-true, ltb-false, eqb-true, ne_eqb, ext_get_or, pow-add}
+use Rattle.std.specs.Prelude.{ℕ, zero, suc, ◌+◌, ◌-◌, ◌*◌, ◌/◌, ◌%◌, ◌^◌, ◌≤◌, ◌<◌, ◌≡◌, refl, ◌⊎◌, Bool, true, false, ◌&&◌, List, [], ◌∷◌, ltb, eqb, length, get_or, take, drop, fold}
+use Rattle.std.proofs.Common.{zero-le, ap₂, ◌∙◌, inl, inr, ⊎_elim, arith, le_refl, add-zero, mod-eq_of_lt, div-one, div-lt_iff_lt-mul, pow-suc, mul_comm, zero-lt-suc, eq-or-lt_of_le, le_of_suc-le-suc, mul_assoc, zero-add, suc-add, lt_of_not-le, add-one, lt-ltb, le-ltb, ltb-true, ltb-false, ext_get_or, pow-add, length-drop, length-take-le, get_or-take, get_or-drop}
 use Rattle.std.proofs.Math.Arith.{digits_mod, digits_div}
+use Rattle.std.proofs.Math.Bool.{and_assoc, and-true}
 use Rattle.std.proofs.Math.Decide.{dec_le}
 use Rattle.std.proofs.Math.Nat.{zero-div, div-div-eq-div-mul, mul-add-mod_self_right}
 use Rattle.std.proofs.Math.Path.{sym, ap}
-use Rattle.std.proofs.lemmas.Bool.{eqb-false}
-use Rattle.std.proofs.lemmas.Nat.{and_le_l, and_le_r, and_comm, and_mask}
-use Rattle.std.specs.Int.Bits.{bit_and, bit_or, or_zero_l, or_add_and}
+use Rattle.std.specs.List.{list_all, range_with_len}
+use Rattle.std.specs.Simd.{first_chunks}
 use Rattle.sets.specs.BoolLaws.{either, and_in, and_left, and_right}
 use Rattle.book.specs.Bytes.{byte, big, little, around, sum16, check_of, run, all}
 use Rattle.book.specs.Parts.{carried}
@@ -40,6 +40,24 @@ pub run_is : (i n : ℕ) (f : ℕ → ℕ) (l : List ℕ) → length l ≡ n →
 run_is i n f l e h =
     ext_get_or 0 (run i n f) l (run_length i n f ∙ sym e)
     (λ j k. let k' : j < n = omega (arith, run_length i n f) in run_at i n f j k' ∙ h j k')
+
+-- a part of a list: its elements, and the run of them
+pub part_at : (l : List ℕ) (at n t : ℕ) → t < n → get_or (take n (drop at l)) t 0 ≡ get_or l (at + t) 0
+part_at l at n t h = get_or-take n (drop at l) t 0 h ∙ get_or-drop at l t 0
+
+pub run_part : (l : List ℕ) (at n : ℕ) → at + n ≤ length l → take n (drop at l) ≡ run at n (λ i. get_or l i 0)
+run_part l at n h =
+    sym
+    (run_is at n (λ i. get_or l i 0) (take n (drop at l)) (omega (arith, length-take-le n (drop at l), length-drop at l))
+    (λ j k. sym (part_at l at n j k)))
+
+-- the numbers of a list's chunks of n
+pub chunk_at : (n k : ℕ) (l : List ℕ) (i t : ℕ) → i < k → t < n → get_or (get_or (first_chunks n k l) i []) t 0 ≡ get_or l (n * i + t) 0
+chunk_at n zero l i t h m = absurd (omega arith)
+chunk_at n (suc k) l zero t h m = let e : t ≡ n * 0 + t = omega arith in get_or-take n l t 0 m ∙ ap (λ (j : ℕ). get_or l j 0) e
+chunk_at n (suc k) l (suc i) t h m =
+    let e : n + (n * i + t) ≡ n * suc i + t = omega arith in
+    chunk_at n k (drop n l) i t (omega arith) m ∙ get_or-drop n l (n * i + t) 0 ∙ ap (λ (j : ℕ). get_or l j 0) e
 
 pub run_three : (f : ℕ → ℕ) (i x y z : ℕ) → x ≡ f (i + 0) → y ≡ f (i + 1) → z ≡ f (i + 2) → x ∷ y ∷ z ∷ [] ≡ run i 3 f
 unfolding run
@@ -82,19 +100,35 @@ pub all_ext : (n : ℕ) (p g : ℕ → Bool) → ((i : ℕ) → i < n → p i �
 all_ext zero p g h = refl
 all_ext (suc n) p g h = rw (all_ext n p g (λ i l. h i (omega arith)), h n (le_refl (suc n))) refl
 
--- ---- bits together: by or they are none where both have none, and by and those of two bytes are 255 where both are
+-- the test of 0 apart, and the tests one after the other
+all_front : (n : ℕ) (p : ℕ → Bool) → all (suc n) p ≡ p 0 && all n (λ i. p (suc i))
+all_front zero p = sym (and-true (p 0))
+all_front (suc n) p = ap (λ (b : Bool). b && p (suc n)) (all_front n p) ∙ and_assoc (p 0) (all n (λ i. p (suc i))) (p (suc n))
 
-pub or_none : (x y : ℕ) → eqb (bit_or x y) 0 ≡ eqb x 0 && eqb y 0
-or_none x y =
-    ⊎_elim (λ (e : eqb x 0 ≡ true). rw (e, eqb-true x 0 e, or_zero_l y) refl)
-    (λ (e : eqb x 0 ≡ false). rw e (ne_eqb (bit_or x y) 0 (λ z. eqb-false x 0 e (omega (arith, or_add_and x y, and_le_r x y)))))
-    (either (eqb x 0))
+all_listed : (i n : ℕ) (p : ℕ → Bool) → list_all p (range_with_len i n) ≡ all n (λ t. p (i + t))
+all_listed i zero p = refl
+all_listed i (suc n) p =
+    let each : (t : ℕ) → t < n → p (i + 1 + t) ≡ p (i + suc t) = λ t l. let e : i + 1 + t ≡ i + suc t = omega arith in ap p e in
+    rw (all_listed (i + 1) n p, all_ext n _ _ each, all_front n (λ t. p (i + t)), add-zero i) refl
 
-pub and_full : (x y : ℕ) → x < 256 → y < 256 → eqb (bit_and x y) 255 ≡ eqb x 255 && eqb y 255
-and_full x y l m =
-    ⊎_elim (λ (e : eqb x 255 ≡ true). rw (e, eqb-true x 255 e, and_comm 255 y, and_mask y 8, mod-eq_of_lt m) refl)
-    (λ (e : eqb x 255 ≡ false). rw e (ne_eqb (bit_and x y) 255 (λ z. eqb-false x 255 e (omega (arith, and_le_l x y)))))
-    (either (eqb x 255))
+pub all_next : (n : ℕ) (p : ℕ → Bool) → all (suc n) p ≡ p 0 && list_all (λ k. p (k + 1)) (range_with_len 0 n)
+all_next n p =
+    all_front n p ∙ ap (λ (b : Bool). p 0 && b)
+    (all_ext n _ _ (λ i l. let e : suc i ≡ 0 + i + 1 = omega arith in ap p e) ∙ sym (all_listed 0 n (λ k. p (k + 1))))
+
+-- a test of all of a part of a list
+pub all_part : (v at n : ℕ) (l : List ℕ) → at + n ≤ length l
+    → all (length (take n (drop at l))) (λ t. eqb (get_or (take n (drop at l)) t 0) v) ≡ all n (λ t. eqb (get_or l (at + t) 0) v)
+all_part v at n l h =
+    rw (length-take-le n (drop at l) (omega (arith, length-drop at l)))
+    (all_ext n _ _ (λ t k. ap (λ (x : ℕ). eqb x v) (part_at l at n t k)))
+
+-- numbers joined by a test of each
+pub all_joined : (v : ℕ) (xs : List ℕ) (b : Bool) → fold (λ (same : Bool) (x : ℕ). same && eqb x v) b xs ≡ b && all (length xs) (λ t. eqb (get_or xs t 0) v)
+all_joined v [] b = sym (and-true b)
+all_joined v (x ∷ xs) b =
+    all_joined v xs (b && eqb x v) ∙ and_assoc b (eqb x v) (all (length xs) (λ t. eqb (get_or xs t 0) v))
+    ∙ ap (λ (a : Bool). b && a) (sym (all_front (length xs) (λ t. eqb (get_or (x ∷ xs) t 0) v)))
 
 -- ---- the sum and the check
 
@@ -203,6 +237,10 @@ pub byte_none : (k : ℕ) → byte k 0 ≡ 0
 byte_none k = rw zero-div refl
 
 -- ---- bytes high byte first
+
+pub big_ext : (k : ℕ) (f g : ℕ → ℕ) → ((j : ℕ) → j < k → f j ≡ g j) → big k f ≡ big k g
+big_ext zero f g h = refl
+big_ext (suc k) f g h = rw (big_ext k f g (λ j l. h j (omega arith)), h k (le_refl (suc k))) refl
 
 pub byte_big : (f : ℕ → ℕ) → ((j : ℕ) → f j < 256) → (t : ℕ) → t < 4 → byte (3 - t) (big 4 f) ≡ f t
 byte_big f h zero l = omega (arith, h 0, h 1, h 2, h 3)

@@ -4,9 +4,7 @@ use Rattle.std.specs.Prelude.{ℕ, ◌≡◌, refl, Bool, true, false, cond, Lis
 use Rattle.std.proofs.Common.{ap, ◌∙◌, arith}
 use Rattle.rows.specs.Judge.{Check, judge}
 use Rattle.rows.specs.JudgeLaws.{Passed}
-use Rattle.book.specs.Fault.{fault_of}
-use Rattle.book.specs.declared.checks.Fault.{Fault}
-use Rattle.book.specs.declared.checks.Fault.TheVariants.{At, Clear}
+use Rattle.book.specs.Fault.{Fault, At, Clear, fault_of}
 
 -- ---- an answer told by the first fault
 

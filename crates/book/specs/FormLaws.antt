@@ -1,15 +1,15 @@
 -- Laws of a verdict's form: an order's entries one at a time, beside the set of the rows seen so far, those behind its rows, and the size of a group that fits.
 -- Assumes nothing.
-use Rattle.std.specs.Prelude.{ℕ, ◌+◌, ◌^◌, ◌≤◌, ◌<◌, ◌≡◌, Bool, true, false, cond, not, ◌&&◌, ◌||◌, List, ltb, leb, eqb, get_or}
-use Rattle.std.proofs.Common.{sym, ap, ⊎_elim, arith, add-one, pow_pos, lt-ltb, le-ltb, ltb-true, eqb-true, leb-true, eq-eqb, ne_eqb}
+use Rattle.std.specs.Prelude.{ℕ, ◌+◌, ◌-◌, ◌^◌, ◌≤◌, ◌<◌, ◌≡◌, Bool, true, false, cond, not, ◌&&◌, ◌||◌, List, ltb, leb, eqb, get_or}
+use Rattle.std.proofs.Common.{sym, ap, ◌∙◌, ⊎_elim, arith, add-one, pow_pos, lt-ltb, le-ltb, ltb-true, eqb-true, leb-true, eq-eqb, ne_eqb}
 use Rattle.std.proofs.Math.Path.{refl}
-use Rattle.std.specs.Int.Bits.{bit_and}
+use Rattle.std.proofs.lemmas.Bool.{eqb-false}
 use Rattle.sets.specs.BoolLaws.{either, and_left, and_right}
 use Rattle.sets.specs.Sets.{word, has, mask, set_of, within, none, with_row}
 use Rattle.sets.specs.SetLaws.{set_ext, has_set_of}
 use Rattle.sets.specs.declared.Set.{Set}
 use Rattle.book.specs.Bytes.{all}
-use Rattle.book.specs.ByteLaws.{side, all_at, all_make, all_ext, and_full}
+use Rattle.book.specs.ByteLaws.{side, all_at, all_from, all_ext}
 use Rattle.book.specs.Form.{among, entry_fits, order_fits, group_fits, empty, formed}
 use Rattle.book.specs.Parts.{free_at, rest_free}
 use Rattle.book.specs.declared.verdicts.Verdict.{Verdict}
@@ -35,15 +35,15 @@ module _ (order : List ℕ) where
       (λ (e : ltb k p ≡ false). rw e refl)
       (either (ltb k p)))
 
--- entries are 255 where all their bits together are 255
-pub free_none : (p : ℕ) (order : List ℕ) → eqb 255 255 ≡ rest_free p order p
+-- those behind the p rows are tested by the entries from p on
+pub free_rest : (p : ℕ) (order : List ℕ) → p ≤ 96 → all (96 - p) (λ t. eqb (get_or order (p + t) 0) 255) ≡ rest_free p order 96
 unfolding rest_free
-free_none p order = sym (all_make p (free_at p order) (λ i l. rw (lt-ltb i p l) refl))
-
-pub free_more : (p : ℕ) (order : List ℕ) (i bits : ℕ) → p ≤ i → bits < 256 → get_or order i 0 < 256 → eqb bits 255 ≡ rest_free p order i
-    → eqb (bit_and bits (get_or order i 0)) 255 ≡ rest_free p order (i + 1)
-unfolding rest_free
-free_more p order i bits h l m e = rw (add-one i, ← e, le-ltb i p h) (and_full bits (get_or order i 0) l m)
+free_rest p order h =
+    let end : p + (96 - p) ≡ 96 = omega arith in
+    sym
+    (ap (λ (n : ℕ). all n (free_at p order)) (sym end)
+    ∙ all_from p (96 - p) (free_at p order) (λ t. eqb (get_or order (p + t) 0) 255) (λ i l. rw (lt-ltb i p l) refl)
+    (λ t l. rw (le-ltb (p + t) p (omega arith)) refl))
 
 -- an order whose first p entries fit is left to fit by the others
 pub order_rest : (p : ℕ) (order : List ℕ) → all p (entry_fits p order) ≡ true → rest_free p order 96 ≡ order_fits p order
@@ -75,6 +75,17 @@ formed_kind n v h =
     let rest = group_fits v.kind v.group n in
     let order = order_fits (cond (eqb v.kind 1) n 0) v.order in
     leb-true v.kind 2 (and_left (leb v.kind 2) order (and_left (leb v.kind 2 && order) rest h))
+
+-- a group is empty where both its words are 0
+pub group_empty : (g : Set) → eqb g.low 0 && eqb g.high 0 ≡ empty g
+group_empty g =
+    ⊎_elim
+    (λ (a : eqb g.low 0 ≡ true).
+    ⊎_elim (λ (b : eqb g.high 0 ≡ true). rw (a, b) (sym (eq-eqb (word g) 0 (omega (arith, eqb-true g.low 0 a, eqb-true g.high 0 b)))))
+    (λ (b : eqb g.high 0 ≡ false). rw (a, b) (sym (ne_eqb (word g) 0 (λ z. eqb-false g.high 0 b (omega arith)))))
+    (either (eqb g.high 0)))
+    (λ (a : eqb g.low 0 ≡ false). rw a (sym (ne_eqb (word g) 0 (λ z. eqb-false g.low 0 a (omega arith)))))
+    (either (eqb g.low 0))
 
 -- the form of an empty group, and of one that is not empty
 pub group_none : (kind n : ℕ) (g : Set) → g.low ≡ 0 → g.high ≡ 0 → not (eqb kind 2) ≡ group_fits kind g n

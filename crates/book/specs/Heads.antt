@@ -1,15 +1,9 @@
--- What the writer's private functions hold: the head of a book beside the table's words.
+-- What the writer's private functions hold: what a book says beside its table, and the table's words.
 -- Assumes nothing.
 use Rattle.std.specs.Prelude.{ℕ, List, []}
 use Rattle.book.specs.Layout.{Content}
-use Rattle.book.specs.declared.layout.Head.{Head}
+use Rattle.book.specs.declared.reading.Book.{Book}
 
--- what a book of this head and these words says
-abbrev pub said : Head → List ℕ → Content
-said h words = record {
-  m = h.m;
-  n = h.n;
-  verdict = record { kind = h.kind; order = h.order; group = h.group };
-  more = [];
-  table = words;
-}
+-- what a book says with these words
+abbrev pub said : Book → List ℕ → Content
+said b words = record { m = b.m; n = b.n; verdict = b.verdict; more = []; table = words }

@@ -3,11 +3,13 @@ pub mod Form
 pub mod Layout
 pub mod Write
 pub mod Read
+pub mod Told
 pub mod Spare
 pub mod Heads
 pub mod Parts
 pub mod Fault
 pub mod ByteLaws
+pub mod LibraryLaws
 pub mod OverLaws
 pub mod PartsLaws
 pub mod FaultLaws

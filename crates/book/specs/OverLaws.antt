@@ -1,8 +1,9 @@
 -- A list written over another from its start.
 -- Assumes nothing.
+use Rattle.std.proofs.Math.Seq.{drop-length}
 use Rattle.std.specs.Prelude.{ℕ, suc, ◌+◌, ◌≤◌, ◌<◌, ◌≡◌, List, ◌++◌, length, get_or, take, drop, set}
-use Rattle.std.proofs.Common.{sym, ap, ◌∙◌, append-nil, arith, add-one, take_all, take-suc, drop-cons, length-take-le}
-use Rattle.std.proofs.Math.Seq.{drop-length, append_snoc}
+use Rattle.std.proofs.Common.{sym, ap, ◌∙◌, arith, add-one, take_all, take-suc, drop-cons, length-take-le, append-nil}
+use Rattle.std.proofs.Math.Seq.{append_snoc}
 use Rattle.std.proofs.lemmas.List.{set_at}
 
 -- the first i elements of w, then those of d

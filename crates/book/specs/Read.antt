@@ -12,7 +12,15 @@ use Rattle.book.specs.Bytes.{big, little, check_of, run, all}
 use Rattle.book.specs.Form.{formed}
 use Rattle.book.specs.Layout.{Edition, edition_one, longest, Content, blocks, at}
 use Rattle.book.specs.declared.verdicts.Verdict.{Verdict}
-use Rattle.book.specs.declared.reading.BookRead.{BookRead}
+
+-- What reading answers: the number; with 3 the lowest row at fault, with 10 and 11 the first block at fault; and what the book says.
+pub record BookRead : Type 0 where
+  pub number : ℕ
+  pub row : ℕ
+  pub block : ℕ
+  pub m : ℕ
+  pub n : ℕ
+  pub verdict : Verdict
 
 -- ---- what stands in a book
 

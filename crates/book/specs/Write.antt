@@ -7,7 +7,11 @@ use Rattle.rows.specs.Table.{row_count, table_checks}
 use Rattle.book.specs.Form.{formed}
 use Rattle.book.specs.Layout.{Edition, edition_one, Content, blocks, book_of}
 use Rattle.book.specs.declared.verdicts.Verdict.{Verdict}
-use Rattle.book.specs.declared.writing.BookWritten.{BookWritten}
+
+-- What writing answers: the number, and with 3 the lowest row at fault.
+pub record BookWritten : Type 0 where
+  pub number : ℕ
+  pub row : ℕ
 
 -- what a book of these words says
 abbrev pub content_of : List ℕ → ℕ → Verdict → Content

@@ -10,6 +10,6 @@ mod storing;
 mod verdicts;
 mod writing;
 
-pub use reading::{BookRead, read};
+pub use reading::{Book, read};
 pub use verdicts::Verdict;
-pub use writing::{BookWritten, write};
+pub use writing::write;

@@ -1,55 +1,52 @@
 // Answers to cases over books.
-ghost use Rattle.io.specs.Counts.{IsPrefixLen};
-
-use book::Verdict;
+use crate::{head, refused};
+use book::{Book, Verdict};
+use rows::Refusal;
+use rows::numbers::DONE;
+use sets::Set;
 use std::io;
 use std::io::Write;
-use wire::numbers::Block;
-use wire::{Bytes, Words, answer, numbers};
+use wire::answer::Part;
+use wire::case::Case;
+use wire::numbers::Numbers;
 
 // Kind 7. Numbers: m, the verdict. List: the output.
-pub(crate) fn write<W: Write>(
-    out: &mut W,
-    table: &[u32],
-    numbers: &Block,
-    mut bytes: Bytes,
-    size: usize,
-) -> io::Result<()>
-    requires { IsPrefixLen size bytes }
-{
-    let m = numbers::word(numbers, 0);
-    let r = book::write(table, m, verdict(numbers), &mut bytes[..size]);
-    answer::head(out, r.number, r.row)?;
-    answer::bytes(out, bytes, size)
+pub(crate) fn write<W: Write>(out: &mut W, case: &mut Case) -> io::Result<()> {
+    let m = case.numbers.word(0);
+    let answer = book::write(&case.table, m, verdict(&case.numbers), &mut case.list);
+    head(answer).put(out)?;
+    case.list.put(out)
 }
 
-fn verdict(numbers: &Block) -> Verdict {
-    let order = numbers::order(numbers, 5);
-    let group = numbers::set(numbers, 101);
+fn verdict(numbers: &Numbers) -> Verdict {
     Verdict {
-        kind: numbers::byte(numbers, 4),
-        order,
-        group,
+        kind: u32::from(numbers.byte(4)),
+        order: numbers.order(5),
+        group: numbers.set(101),
     }
 }
 
 // Kind 8. List: the book. Room: the words read.
-pub(crate) fn read<W: Write>(
-    out: &mut W,
-    bytes: Bytes,
-    size: usize,
-    mut words: Words,
-    room: usize,
-) -> io::Result<()>
-    requires { IsPrefixLen size bytes × IsPrefixLen room words }
-{
-    let r = book::read(&bytes[..size], &mut words[..room]);
-    answer::head(out, r.number, r.row)?;
-    answer::size(out, r.block)?;
-    answer::small(out, r.m)?;
-    answer::size(out, r.n)?;
-    let said = r.verdict;
-    let order = said.order;
-    answer::verdict(out, said.kind, said.group, order)?;
-    answer::words(out, words, room)
+pub(crate) fn read<W: Write>(out: &mut W, case: &mut Case) -> io::Result<()> {
+    match book::read(&case.list, &mut case.room) {
+        Ok(book) => put_book(out, book)?,
+        Err(why) => put_refusal(out, why)?,
+    }
+    case.room.put(out)
+}
+
+fn put_book<W: Write>(out: &mut W, book: Book) -> io::Result<()> {
+    let said = book.verdict;
+    ((DONE, 0usize), 0usize).put(out)?;
+    (book.m, book.n).put(out)?;
+    (said.kind, said.group).put(out)?;
+    said.order.put(out)
+}
+
+// A refused book has no verdict, and no order.
+fn put_refusal<W: Write>(out: &mut W, why: Refusal) -> io::Result<()> {
+    (refused(why), why.block()).put(out)?;
+    (0u32, 0usize).put(out)?;
+    (0u32, Set::NONE).put(out)?;
+    [255u8; 96].put(out)
 }

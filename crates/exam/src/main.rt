@@ -1,20 +1,82 @@
 // Examines the public functions: cases on standard input, answers on standard output, as docs/EXAM.md says.
-// A kind is a line in `shape`, a line in `answer`, and a function that calls what is examined and writes its answer.
+// A kind is a variant, a line in `of`, `shape` and `answer` each, and a function that calls what is examined and writes its
+// answer.
 #![tactic(auto)]
 
-ghost use Rattle.io.specs.Counts.{IsPrefixLen};
-
+use rows::Refusal;
+use rows::numbers::DONE;
 use std::io;
 use std::io::{Read, Write};
-use wire::case::{Case, Shape};
-use wire::numbers::Block;
-use wire::{Bytes, Words, case};
+use wire::case;
+use wire::case::{Case, Shape, Stop};
 
 mod books;
 mod table;
 
 // The most bytes of a list.
 const LIST: usize = 4096;
+
+#[derive(Clone, Copy, Debug, PartialEq, Eq)]
+enum Kind {
+    Test,
+    Search,
+    Step,
+    Policy,
+    CheckOrder,
+    CheckGroup,
+    WriteBook,
+    ReadBook,
+}
+
+impl Kind {
+    // No `TryFrom`: an unknown kind is no error but the end of the cases.
+    fn of(number: u8) -> Option<Kind> {
+        match number {
+            1 => Some(Kind::Test),
+            2 => Some(Kind::Search),
+            3 => Some(Kind::Step),
+            4 => Some(Kind::Policy),
+            5 => Some(Kind::CheckOrder),
+            6 => Some(Kind::CheckGroup),
+            7 => Some(Kind::WriteBook),
+            8 => Some(Kind::ReadBook),
+            _ => None,
+        }
+    }
+
+    // The parts of its cases.
+    fn shape(self) -> Shape {
+        match self {
+            Kind::Test => over(24, 0, 0),
+            Kind::Search => over(4, LIST, 0),
+            Kind::Step => over(124, 0, 0),
+            Kind::Policy => over(8, LIST, 0),
+            Kind::CheckOrder => over(4, LIST, 0),
+            Kind::CheckGroup => over(20, 0, 0),
+            Kind::WriteBook => over(117, LIST, 0),
+            Kind::ReadBook => Shape {
+                table: false,
+                numbers: 0,
+                list: LIST,
+                after: 0,
+                room: true,
+            },
+        }
+    }
+
+    fn answer<W: Write>(self, out: &mut W, case: &mut Case) -> io::Result<()> {
+        match self {
+            Kind::Test => table::test(out, case),
+            Kind::Search => table::search(out, case),
+            Kind::Step => table::step(out, case),
+            Kind::Policy => table::policy(out, case),
+            Kind::CheckOrder => table::check_order(out, case),
+            Kind::CheckGroup => table::check_group(out, case),
+            Kind::WriteBook => books::write(out, case),
+            Kind::ReadBook => books::read(out, case),
+        }
+    }
+}
 
 // A case over a table: so many bytes of numbers, a list of at most so many bytes, so many bytes of numbers after it.
 fn over(numbers: usize, list: usize, after: usize) -> Shape {
@@ -27,101 +89,35 @@ fn over(numbers: usize, list: usize, after: usize) -> Shape {
     }
 }
 
-// The parts of a case of each kind; none of an unknown one.
-fn shape(kind: u8) -> Shape {
-    match kind {
-        1 => over(24, 0, 0),
-        2 => over(4, LIST, 0),
-        3 => over(124, 0, 0),
-        4 => over(8, LIST, 0),
-        5 => over(4, LIST, 0),
-        6 => over(20, 0, 0),
-        7 => over(117, LIST, 0),
-        8 => Shape {
-            table: false,
-            numbers: 0,
-            list: LIST,
-            after: 0,
-            room: true,
-        },
-        _ => Shape {
-            table: false,
-            numbers: 0,
-            list: 0,
-            after: 0,
-            room: false,
-        },
+// How an answer begins: its number, and the row that goes with it.
+type Head = (u32, usize);
+
+fn refused(why: Refusal) -> Head {
+    (why.number(), why.row())
+}
+
+fn head(answer: Result<(), Refusal>) -> Head {
+    match answer {
+        Ok(()) => (DONE, 0),
+        Err(why) => refused(why),
     }
 }
 
-// The answer to a case of each kind; false of an unknown one.
-fn answer<W: Write>(
-    out: &mut W,
-    kind: u8,
-    table: &[u32],
-    numbers: &Block,
-    bytes: Bytes,
-    size: usize,
-    words: Words,
-    room: usize,
-) -> io::Result<bool>
-    requires { IsPrefixLen size bytes × IsPrefixLen room words }
-{
-    match kind {
-        1 => table::test(out, table, numbers)?,
-        2 => table::search(out, table, numbers, bytes, size)?,
-        3 => table::step(out, table, numbers)?,
-        4 => table::policy(out, table, numbers, bytes, size)?,
-        5 => table::check_order(out, table, numbers, bytes, size)?,
-        6 => table::check_group(out, table, numbers)?,
-        7 => books::write(out, table, numbers, bytes, size)?,
-        8 => books::read(out, bytes, size, words, room)?,
-        _ => {
-            return Ok(false);
-        }
-    }
-    Ok(true)
+fn one_case<R: Read, W: Write>(input: &mut R, out: &mut W) -> Result<(), Stop> {
+    let kind = Kind::of(case::kind(input)?).ok_or(Stop::End)?;
+    let mut case = case::read(input, kind.shape())?;
+    kind.answer(out, &mut case).map_err(Stop::Error)
 }
 
-// Takes a whole case apart, so that the lines of `answer` speak of its parts alone.
-fn answer_whole<W: Write>(out: &mut W, kind: u8, case: Case) -> io::Result<bool>
-    requires prefix_len { IsPrefixLen case.table.n case.table.words }
-    requires prefix_len_2 { IsPrefixLen case.list.n case.list.bytes }
-    requires prefix_len_3 { IsPrefixLen case.room.n case.room.words }
-{
-    let table = case.table.words;
-    let n = case.table.n;
-    let bytes = case.list.bytes;
-    let words = case.room.words;
-    answer(
-        out,
-        kind,
-        &table[..n],
-        &case.numbers,
-        bytes,
-        case.list.n,
-        words,
-        case.room.n,
-    )
-}
-
-// One case. False where the input ends, is cut short, or has another kind.
-fn one_case<R: Read, W: Write>(input: &mut R, out: &mut W) -> io::Result<bool> {
-    let kind = case::kind(input)?;
-    let case = case::read(input, shape(kind))?;
-    if !case.whole {
-        return Ok(false);
-    }
-    answer_whole(out, kind, case)
-}
-
-// Cases until one is the last. Each answer is written before the next case is read.
+// Cases until one is the last, which no input has more of than the bound. Each answer is written before the next case is read.
 fn main(rt: HostRuntime) -> io::Result<()> {
     let mut input = rt.reader();
     let mut out = io::writer(&rt);
     for _ in 0..u64::MAX {
-        if !one_case(&mut input, &mut out)? {
-            break;
+        match one_case(&mut input, &mut out) {
+            Ok(()) => {}
+            Err(Stop::End) => break,
+            Err(Stop::Error(e)) => return Err(e),
         }
     }
     Ok(())

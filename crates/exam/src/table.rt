@@ -1,94 +1,87 @@
-// Answers to cases over a table: each takes the table, the numbers, and the list of bytes where the case has one.
-ghost use Rattle.io.specs.Counts.{IsPrefixLen};
-
-use search::State;
+// Answers to cases over a table.
+use crate::{Head, head, refused};
+use rows::Refusal;
+use rows::numbers::{BLOCKED, DONE, MEMBER_PASSES, ORDER_FAILS, UNFINISHED};
+use search::{Found, Outcome, State};
+use sets::Set;
 use std::io;
 use std::io::Write;
-use wire::numbers::Block;
-use wire::{Bytes, answer, numbers};
+use wire::answer::Part;
+use wire::case::Case;
+use wire::numbers::Numbers;
 
 // Kind 1. Numbers: m, row k, the set above it.
-pub(crate) fn test<W: Write>(out: &mut W, table: &[u32], numbers: &Block) -> io::Result<()> {
-    let m = numbers::word(numbers, 0);
-    let k = numbers::word(numbers, 4);
-    let r = test::test_row(table, m, k as usize, numbers::set(numbers, 8));
-    answer::head(out, r.number, r.row)?;
-    answer::flag(out, r.passes)?;
-    answer::part(out, r.used)
+pub(crate) fn test<W: Write>(out: &mut W, case: &Case) -> io::Result<()> {
+    let m = case.numbers.word(0);
+    let k = case.numbers.word(4) as usize;
+    match test::test_row(&case.table, m, k, case.numbers.set(8)) {
+        Ok(tested) => ((DONE, 0usize), (tested.passes, tested.used)).put(out),
+        Err(why) => (refused(why), (false, 0u64)).put(out),
+    }
 }
 
 // Kind 2. Numbers: m. List: the output.
-pub(crate) fn search<W: Write>(
-    out: &mut W,
-    table: &[u32],
-    numbers: &Block,
-    mut bytes: Bytes,
-    size: usize,
-) -> io::Result<()>
-    requires { IsPrefixLen size bytes }
-{
-    let r = search::search(table, numbers::word(numbers, 0), &mut bytes[..size]);
-    answer::found(out, r.number, r.row, r.group, r.tests)?;
-    answer::bytes(out, bytes, size)
+pub(crate) fn search<W: Write>(out: &mut W, case: &mut Case) -> io::Result<()> {
+    let m = case.numbers.word(0);
+    let found = Found::from(search::search(&case.table, m, &mut case.list));
+    ((found.number, found.row), (found.group, found.tests)).put(out)?;
+    case.list.put(out)
 }
 
 // Kind 3. Numbers: m, the state, the quota.
-pub(crate) fn step<W: Write>(out: &mut W, table: &[u32], numbers: &Block) -> io::Result<()> {
-    let m = numbers::word(numbers, 0);
-    let quota = numbers::long(numbers, 116);
-    let r = search::step(table, m, state(numbers), quota);
-    answer::found(out, r.number, r.row, r.group, r.tests)?;
-    let next = r.state;
-    let order = next.order;
-    answer::state(out, order, next.placed, next.cursor)
+pub(crate) fn step<W: Write>(out: &mut W, case: &Case) -> io::Result<()> {
+    let m = case.numbers.word(0);
+    let quota = case.numbers.long(116);
+    let stepped = search::step(&case.table, m, state(&case.numbers), quota);
+    (outcome(stepped.answer), stepped.tests).put(out)?;
+    let next = stepped.state;
+    next.order.put(out)?;
+    (next.placed, next.cursor).put(out)
 }
 
-fn state(numbers: &Block) -> State {
-    let order = numbers::order(numbers, 4);
-    let placed = numbers::long(numbers, 100);
-    let cursor = numbers::long(numbers, 108);
+fn state(numbers: &Numbers) -> State {
     State {
-        order,
-        placed: placed as usize,
-        cursor: cursor as usize,
+        order: numbers.order(4),
+        placed: numbers.long(100) as usize,
+        cursor: numbers.long(108) as usize,
+    }
+}
+
+// How a step's answer begins, and the blocked group.
+fn outcome(answer: Result<Outcome, Refusal>) -> (Head, Set) {
+    match answer {
+        Ok(Outcome::Order) => ((DONE, 0), Set::NONE),
+        Ok(Outcome::Blocked(group)) => ((BLOCKED, 0), group),
+        Ok(Outcome::Unfinished) => ((UNFINISHED, 0), Set::NONE),
+        Err(why) => (refused(why), Set::NONE),
     }
 }
 
 // Kind 4. Numbers: m, the policy. List: the output.
-pub(crate) fn policy<W: Write>(
-    out: &mut W,
-    table: &[u32],
-    numbers: &Block,
-    mut bytes: Bytes,
-    size: usize,
-) -> io::Result<()>
-    requires { IsPrefixLen size bytes }
-{
-    let m = numbers::word(numbers, 0);
-    let r = policy::propose(table, m, numbers::word(numbers, 4), &mut bytes[..size]);
-    answer::head(out, r.number, r.row)?;
-    answer::bytes(out, bytes, size)
+pub(crate) fn policy<W: Write>(out: &mut W, case: &mut Case) -> io::Result<()> {
+    let m = case.numbers.word(0);
+    let policy = case.numbers.word(4);
+    let answer = policy::propose(&case.table, m, policy, &mut case.list);
+    head(answer).put(out)?;
+    case.list.put(out)
 }
 
 // Kind 5. Numbers: m. List: the order.
-pub(crate) fn check_order<W: Write>(
-    out: &mut W,
-    table: &[u32],
-    numbers: &Block,
-    bytes: Bytes,
-    size: usize,
-) -> io::Result<()>
-    requires { IsPrefixLen size bytes }
-{
-    let r = audit::check_order(table, numbers::word(numbers, 0), &bytes[..size]);
-    answer::head(out, r.number, r.row)?;
-    answer::size(out, r.level)?;
-    answer::part(out, r.used)
+pub(crate) fn check_order<W: Write>(out: &mut W, case: &Case) -> io::Result<()> {
+    let m = case.numbers.word(0);
+    match audit::check_order(&case.table, m, &case.list) {
+        Ok(None) => ((DONE, 0usize), (0usize, 0u64)).put(out),
+        Ok(Some(failing)) => ((ORDER_FAILS, 0usize), (failing.level, failing.used)).put(out),
+        Err(why) => (refused(why), (0usize, 0u64)).put(out),
+    }
 }
 
 // Kind 6. Numbers: m, the group.
-pub(crate) fn check_group<W: Write>(out: &mut W, table: &[u32], numbers: &Block) -> io::Result<()> {
-    let m = numbers::word(numbers, 0);
-    let r = audit::check_group(table, m, numbers::set(numbers, 4));
-    answer::head(out, r.number, r.row)
+pub(crate) fn check_group<W: Write>(out: &mut W, case: &Case) -> io::Result<()> {
+    let m = case.numbers.word(0);
+    match audit::check_group(&case.table, m, case.numbers.set(4)) {
+        Ok(None) => (DONE, 0usize).put(out),
+        Ok(Some(row)) => (MEMBER_PASSES, row).put(out),
+        Err(why) => refused(why).put(out),
+    }
 }

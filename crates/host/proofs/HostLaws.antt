@@ -17,8 +17,8 @@ use Rattle.book.specs.Read.{content, read_checks, refused, read_of, read_into, t
 use Rattle.book.specs.Write.{content_of, write_of, write_into}
 use Rattle.book.proofs.WriteLaws.{write_done}
 use Rattle.book.proofs.BookLaws.{read_passed, Handed, read_handed, reads_back}
-use Rattle.book.specs.declared.reading.BookRead.{BookRead}
-use Rattle.book.specs.declared.writing.BookWritten.{BookWritten}
+use Rattle.book.specs.Read.{BookRead}
+use Rattle.book.specs.Write.{BookWritten}
 use Rattle.host.specs.Host.{verdict_by, searched, host_checks, host_number, host_into}
 use Rattle.host.specs.VerdictLaws.{verdict_formed, verdict_typed, verdict_kind}
 

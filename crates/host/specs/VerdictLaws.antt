@@ -1,6 +1,6 @@
 -- The search's verdict on a table that passed its checks: what it is where every row is placed and where rows are left, and that it has its form.
 -- Assumes nothing.
-use Rattle.std.specs.Prelude.{ℕ, zero, suc, ◌+◌, ◌-◌, ◌≤◌, ◌<◌, ◌≡◌, ◌⊎◌, true, false, List, [], ◌∷◌, ◌++◌, eqb, get_or, drop, replicate}
+use Rattle.std.specs.Prelude.{ℕ, zero, suc, ◌+◌, ◌-◌, ◌≤◌, ◌<◌, ◌≡◌, ◌⊎◌, true, false, List, [], ◌∷◌, ◌++◌, Err, eqb, get_or, drop, replicate}
 use Rattle.std.proofs.Common.{zero-le, sym, ap, ◌∙◌, inl, inr, eq-or-lt_of_le, take-suc, take-take, get_or-take, get_or-append-add, length-take-le, eq-eqb, lt-ltb, le-ltb, ltb-true, ltb-false, arith}
 use Rattle.std.proofs.Math.Dec.{ltb}
 use Rattle.std.proofs.Math.ListN.{length, take, length-append, length-drop}
@@ -16,7 +16,11 @@ use Rattle.sets.specs.SumLaws.{on_le, on_true, on_false, count_zero_iff}
 use Rattle.sets.specs.Sets.{word, has, set_of, none, within}
 use Rattle.sets.specs.SetLaws.{within_iff, set_of_fits}
 use Rattle.rows.specs.Table.{row_count, table_fault}
+use Rattle.rows.specs.Refusals.{refusal_number}
 use Rattle.rows.proofs.TableLaws.{row_count_most}
+use Rattle.rows.proofs.RefusalLaws.{refused_not_done, told_back}
+use Rattle.rows.specs.declared.refusal.Refusal.{Refusal}
+use Rattle.rows.specs.declared.refusal.Refusal.TheVariants.{Policy}
 use Rattle.sets.specs.declared.Set.{Set}
 use Rattle.search.specs.Search.{rows_below, free}
 use Rattle.search.specs.Demand.{Order}
@@ -24,6 +28,7 @@ use Rattle.search.specs.OrderLaws.{times_append}
 use Rattle.search.specs.DemandLaws.{rows_count}
 use Rattle.search.specs.StateLaws.{has_unplaced}
 use Rattle.search.specs.Answers.{placed_of, found_of, written_of, Demanded}
+use Rattle.search.specs.Told.{told_search}
 use Rattle.search.proofs.CallLaws.{placed_most, found_done, found_blocked, written_same, written_order, found_demanded}
 use Rattle.search.specs.declared.call.Found.{Found}
 use Rattle.book.specs.ByteLaws.{all_make}
@@ -85,6 +90,9 @@ unfolding formed
 formed_blocked n order g h s w = and_in (order_fits 0 order) (group_fits 2 g n) h (sym (group_some 2 n g s) ∙ w)
 
 -- ---- the verdict
+
+refused_not_blocked : (r : Refusal) → refusal_number r ≡ blocked → ⊥
+refused_not_blocked r e = let q : Policy ≡ r = rw e at (told_back r) in omega (arith, e, ap refusal_number q)
 
 blanks : List ℕ
 blanks = replicate 96 255
@@ -197,3 +205,9 @@ module _ (words : List ℕ) (m : ℕ) (fair : (table_fault words m).number ≡ d
       ⊎_elim (λ e. inl (number_done e, ap (λ (v : Verdict). v.kind) (verdict_done e)))
       (λ l. inr (number_blocked l, ap (λ (v : Verdict). v.kind) (verdict_blocked l)))
       placed_cases
+
+  -- and the search does not refuse
+  pub not_refused : (why : Refusal) → told_search (Err why) ≡ found_of words (limited m) 96 → ⊥
+  not_refused why e =
+      let number = ap (λ (r : Found). r.number) e in
+      ⊎_elim (λ d. refused_not_done why (number ∙ d.0)) (λ b. refused_not_blocked why (number ∙ b.0)) verdict_kind

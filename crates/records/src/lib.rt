@@ -1,85 +1,50 @@
 // The search over a lent list of task records, for callers in Rattle, C and Rust.
 #![tactic(auto)]
 
-ghost use Rattle.std.specs.Prelude.{◌≡◌, length};
+ghost use Rattle.std.specs.Prelude.{◌≡◌, ◌*◌, ◌≤◌, length, take};
 ghost use Rattle.rows.specs.Board.{limited};
 ghost use Rattle.search.specs.Answers.{found_of, written_of};
-ghost use Rattle.records.specs.Records.{flat, no_rows, add, copy_of, found_in, written_in};
+ghost use Rattle.search.specs.Told.{told_search};
+ghost use Rattle.records.specs.Records.{flat};
 
-use rows::numbers;
-use search::Found;
-use sets::Set;
+use rows::Refusal;
+use search::{Found, Searched};
 
+// C's layout, since C declares it again: a `rows::Row` has the same fields, but no layout that C could rely on.
 #[repr(C)]
-#[derive(Clone, Copy)]
+#[derive(Clone, Copy, Debug, Default, PartialEq, Eq)]
 pub struct Task {
     pub c: u32,
     pub d: u32,
     pub t: u32,
 }
 
-// Tasks copied to flat words, a row each; rows is 97 where there are more than 96.
-#[derive(Clone, Copy)]
-struct Flat {
-    words: [u32; 288],
-    rows: usize,
+// The flat words of the tasks, at the start of room for the largest table. Stored by index: of what a slice of chunks leaves, a
+// proof knows the length alone.
+fn flat_words(tasks: &[Task]) -> [u32; 288]
+    requires { length tasks.now ≤ 96 }
+    ensures { take (3 * length tasks.now) result ≡ flat tasks.now }
+{
+    let mut words = [0u32; 288];
+    for (row, task) in tasks.iter().enumerate() {
+        words[3 * row] = task.c;
+        words[3 * row + 1] = task.d;
+        words[3 * row + 2] = task.t;
+    }
+    words
 }
 
-fn no_rows() -> Flat
-    ensures { result ≡ no_rows }
+// The search of the flat words: 1 where there are more than 96 tasks.
+#[tactic(auto, using(crate::proofs::RecordsLaws::flat_refused, crate::proofs::RecordsLaws::flat_written))]
+fn search_tasks(tasks: &[Task], m: u32, out: &mut [u8]) -> Result<Searched, Refusal>
+    ensures value { told_search result ≡ found_of (flat tasks.now) (limited m) (length out.old) }
+    ensures out_after { out.new ≡ written_of (flat tasks.now) (limited m) out.old }
 {
-    Flat {
-        words: [0u32; 288],
-        rows: 0,
+    if 96 < tasks.len() {
+        return Err(Refusal::TableLength);
     }
-}
-
-// One row more; past 96 rows the words stay, and the count says so.
-fn added(table: Flat, task: Task) -> Flat
-    ensures { result ≡ add table task }
-{
-    let row = table.rows;
-    let mut more = table;
-    if 96 <= row {
-        more.rows = 97;
-        return more;
-    }
-    let at = 3 * row;
-    more.words[at] = task.c;
-    more.words[at + 1] = task.d;
-    more.words[at + 2] = task.t;
-    more.rows = row + 1;
-    more
-}
-
-fn copied(tasks: &[Task]) -> Flat
-    ensures { result ≡ copy_of tasks.now }
-{
-    let mut table = no_rows();
-    let mut i: usize = 0;
-    while i < tasks.len() {
-        table = added(table, tasks[i]);
-        i += 1;
-    }
-    table
-}
-
-// The search of the words copied: 1 where there are more than 96 rows.
-fn search_copy(table: Flat, m: u32, out: &mut [u8]) -> Found
-    ensures value { result ≡ found_in table m (length out.old) }
-    ensures out_after { out.new ≡ written_in table m out.old }
-{
-    if 96 < table.rows {
-        return Found {
-            number: numbers::TABLE_LENGTH,
-            row: 0,
-            group: Set { low: 0, high: 0 },
-            tests: 0,
-        };
-    }
-    let words = table.words;
-    let end = 3 * table.rows;
-    search::search(&words[..end], m, out)
+    let words = flat_words(tasks);
+    search::search(&words[..3 * tasks.len()], m, out)
 }
 
 // The search of the tasks: the answer that their flat words get. Callers in C and Rust declare Task, Found and Set
@@ -88,5 +53,5 @@ pub fn heralinda_search_records(tasks: &[Task], m: u32, out: &mut [u8]) -> Found
     ensures value { result ≡ found_of (flat tasks.now) (limited m) (length out.old) }
     ensures out_after { out.new ≡ written_of (flat tasks.now) (limited m) out.old }
 {
-    search_copy(copied(tasks), m, out)
+    Found::from(search_tasks(tasks, m, out))
 }

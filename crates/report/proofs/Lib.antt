@@ -1,3 +1,4 @@
 pub mod ListingLaws
 pub mod SizeLaws
+pub mod PageLaws
 pub mod Cases

@@ -1,6 +1,6 @@
 -- Laws of the listing: its lines by the masks that the code holds, the listing of a table by what the search answers, and of a book by what reading answers.
 -- Assumes nothing.
-use Rattle.std.specs.Prelude.{ℕ, zero, suc, ◌+◌, ◌*◌, ◌/◌, ◌≤◌, ◌<◌, ◌≡◌, ◌⊎◌, Bool, true, false, ◌||◌, List, [], ◌∷◌, ◌++◌, eqb, length, get_or, take}
+use Rattle.std.specs.Prelude.{ℕ, zero, suc, ◌+◌, ◌*◌, ◌/◌, ◌≤◌, ◌<◌, ◌≡◌, ◌⊎◌, Bool, true, false, ◌||◌, List, [], ◌∷◌, ◌++◌, Err, eqb, length, get_or, take}
 use Rattle.std.proofs.Common.{sym, ◌∙◌, inl, inr, ⊎_elim, arith, eq-or-lt_of_le, add-one, take-suc, eq-eqb, ne_eqb}
 use Rattle.std.proofs.Math.Path.{refl, ap}
 use Rattle.rows.specs.Board.{board_of, limited}
@@ -8,20 +8,25 @@ use Rattle.rows.specs.Judge.{Check, judge}
 use Rattle.rows.specs.Numbers.{done, blocked}
 use Rattle.sets.specs.Sets.{has, mask, set_of, none, with_row, without_row, without}
 use Rattle.sets.specs.SetLaws.{has_set_of, has_without, set_ext}
-use Rattle.rows.specs.Table.{table, row_count}
+use Rattle.rows.specs.Refusals.{refusal_number}
+use Rattle.rows.specs.Table.{table, row_count, table_fault}
 use Rattle.rows.proofs.TableLaws.{row_count_most}
+use Rattle.rows.proofs.RefusalLaws.{refused_not_done, told_back}
+use Rattle.rows.specs.declared.refusal.Refusal.{Refusal}
+use Rattle.rows.specs.declared.refusal.Refusal.TheVariants.{Policy}
 use Rattle.sets.specs.declared.Set.{Set}
 use Rattle.rows.specs.JudgeLaws.{Passed, judge_works}
 use Rattle.test.proofs.TestLaws.{used_ext}
 use Rattle.search.specs.Search.{elem}
 use Rattle.search.specs.Demand.{among}
 use Rattle.search.specs.Answers.{placed_of, found_of}
+use Rattle.search.specs.Told.{told_search}
 use Rattle.search.proofs.CallLaws.{placed_most, found_blocked, found_done}
 use Rattle.search.specs.declared.call.Found.{Found}
 use Rattle.book.specs.Layout.{edition_one}
 use Rattle.book.specs.Read.{content, read_checks, each_block, block_checks, head_checks, body_checks, refused, taken, read_of}
 use Rattle.book.proofs.BookLaws.{Handed, read_handed}
-use Rattle.book.specs.declared.reading.BookRead.{BookRead}
+use Rattle.book.specs.Read.{BookRead}
 use Rattle.report.specs.Text.{lines}
 use Rattle.report.specs.Listing.{order_word, blocked_word, header, row_text, row_line, at_level, level_line, member_line, listed, refused_text, listing_of}
 
@@ -178,17 +183,29 @@ listing_read b words r h = rw (h.table, h.cores) (go (listing_cases b))
     go (unread l f t) = absurd (f h.read)
     go (read d t) = t
 
+-- ---- the search of a table that passed its checks
+
+refused_not_blocked : (r : Refusal) → refusal_number r ≡ blocked → ⊥
+refused_not_blocked r e = let q : Policy ≡ r = rw e at (told_back r) in omega (arith, e, ap refusal_number q)
+
+module _ (words : List ℕ) (m : ℕ) (fair : (table_fault words m).number ≡ done) where
+  -- it answers 0 or 4
+  answers : ((found_of words (limited m) 96).number ≡ done) ⊎ ((found_of words (limited m) 96).number ≡ blocked)
+  answers =
+      ⊎_elim
+      (λ (e : length (placed_of (board_of words (limited m))) ≡ row_count words).
+      inl (ap (λ (f : Found). f.number) (found_done words (limited m) 96 fair (row_count_most words) e)))
+      (λ (l : length (placed_of (board_of words (limited m))) < row_count words).
+      inr (ap (λ (f : Found). f.number) (found_blocked words (limited m) 96 fair (row_count_most words) l)))
+      (eq-or-lt_of_le (placed_most (board_of words (limited m))))
+
+  -- and so does not refuse
+  pub not_refused : (why : Refusal) → told_search (Err why) ≡ found_of words (limited m) 96 → ⊥
+  not_refused why e =
+      let number = ap (λ (f : Found). f.number) e in
+      ⊎_elim (λ d. refused_not_done why (number ∙ d)) (λ b. refused_not_blocked why (number ∙ b)) answers
+
 -- of a book that was read the search answers 0 or 4, so that BLOCKED stands for 4 alone
 pub searched : (b : List ℕ) → (read_of b 288).number ≡ done
     → let found = found_of (content edition_one b).table (limited (content edition_one b).m) 96 in (found.number ≡ done) ⊎ (found.number ≡ blocked)
-searched b h =
-    let fair = (read_handed b h).fair in
-    let words = (content edition_one b).table in
-    let m = (content edition_one b).m in
-    let placed = placed_of (board_of words (limited m)) in
-    ⊎_elim
-    (λ (e : length placed ≡ row_count words).
-    inl (ap (λ (f : Found). f.number) (found_done words (limited m) 96 fair (row_count_most words) e)))
-    (λ (l : length placed < row_count words).
-    inr (ap (λ (f : Found). f.number) (found_blocked words (limited m) 96 fair (row_count_most words) l)))
-    (eq-or-lt_of_le (placed_most (board_of words (limited m))))
+searched b h = answers (content edition_one b).table (content edition_one b).m (read_handed b h).fair

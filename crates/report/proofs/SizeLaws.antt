@@ -52,7 +52,7 @@ modest words i =
 share_most : (words : List ℕ) (i : ℕ) → share words i ≤ 1000
 share_most words i = div-le_of_le-mul (table words i).t (omega (arith, (modest words i).within))
 
-load_most : (words : List ℕ) → load words ≤ 96_000
+pub load_most : (words : List ℕ) → load words ≤ 96_000
 unfolding load
 load_most words = omega (arith, sum_bound (row_count words) 1000 (share words) (λ i l. share_most words i), row_count_most words)
 

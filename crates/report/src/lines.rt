@@ -3,132 +3,95 @@ ghost use Rattle.std.specs.Prelude.{◌≡◌, ◌*◌, ◌/◌, length};
 ghost use Rattle.sets.specs.Sets.{has};
 ghost use Rattle.rows.specs.Table.{row_count};
 ghost use Rattle.report.specs.Text.{lines};
-ghost use Rattle.report.specs.TextLaws.{Room, Puts};
+ghost use Rattle.report.specs.Page.{put};
 ghost use Rattle.report.specs.Listing.{load as load_of, header, row_line, at_level, level_line, member_line};
 
-use crate::text::{put_byte, put_decimal, put_field, put_text};
-use rows::Row;
+use crate::page::Page;
+use rows::{Board, Row};
 use sets::Set;
+
+// The words of a table, and its cores: a `Board` has terms too, of which a listing knows nothing.
+#[derive(Clone, Copy)]
+pub(crate) struct Table<'a> {
+    pub(crate) words: &'a [u32],
+    pub(crate) m: u32,
+}
 
 // 1000 · C / T, rounded down.
 fn share(row: Row) -> u64
     ensures { result ≡ 1000 * row.c / row.t }
 {
-    if row.t == 0 {
-        return 0;
-    }
-    1000 * row.c as u64 / row.t as u64
+    (1000 * u64::from(row.c))
+        .checked_div(u64::from(row.t))
+        .unwrap_or(0)
 }
 
 // The sum of the rows' shares.
 fn load(words: &[u32]) -> u64
     ensures { result ≡ load_of words.now }
 {
-    let n = rows::row_count(words);
-    let mut sum: u64 = 0;
-    let mut i: usize = 0;
-    while i < n {
-        sum += share(rows::row_at(words, i));
-        i += 1;
-    }
-    sum
+    (0..rows::row_count(words))
+        .map(|i| share(rows::row_at(words, i)))
+        .sum()
 }
 
 #[tactic(auto, unfolding(crate::specs::Listing::header))]
-pub(crate) fn put_header(
-    word: &[u8],
-    words: &[u32],
-    m: u32,
-    tests: u64,
-    out: &mut [u8],
-    at: usize,
-) -> usize
-    requires { Room at (header word.now words.now m tests) }
-    ensures { Puts out.old at (header word.now words.now m tests) out.new result }
+pub(crate) fn put_header(word: &[u8], table: Table<'_>, tests: u64, page: &mut Page<'_>)
+    ensures { page.new ≡ put page.old (header word.now table.entry.words.now table.entry.m tests) }
 {
-    let n = rows::row_count(words);
-    let total = load(words);
-    let mut end = put_text(word, out, at);
-    end = put_field(b" m=", m as u64, out, end);
-    end = put_field(b" n=", n as u64, out, end);
-    end = put_field(b" tests=", tests, out, end);
-    end = put_field(b" load=", total, out, end);
-    put_byte(10, out, end)
+    page.text(word);
+    page.field(b" m=", u64::from(table.m));
+    page.field(b" n=", rows::row_count(table.words) as u64);
+    page.field(b" tests=", tests);
+    page.field(b" load=", load(table.words));
+    page.byte(b'\n');
 }
 
 // Row k with the rows above it.
 #[tactic(auto, unfolding(crate::specs::Listing::row_line))]
-fn put_row(words: &[u32], m: u32, above: Set, k: usize, out: &mut [u8], at: usize) -> usize
-    requires { Room at (row_line words.now m (has above) k) }
-    ensures { Puts out.old at (row_line words.now m (has above) k) out.new result }
+fn put_row(table: Table<'_>, above: Set, k: usize, page: &mut Page<'_>)
+    ensures { page.new ≡ put page.old (row_line table.entry.words.now table.entry.m (has above) k) }
 {
-    let row = rows::row_at(words, k);
-    let used = test::used(words, rows::limited(m), above, k);
-    let mut end = put_field(b"row=", k as u64, out, at);
-    end = put_field(b" C=", row.c as u64, out, end);
-    end = put_field(b" D=", row.d as u64, out, end);
-    end = put_field(b" T=", row.t as u64, out, end);
-    end = put_field(b" used=", used, out, end);
-    put_byte(10, out, end)
+    let board = Board::limited(table.words, table.m);
+    let row = board.row(k);
+    let used = test::used(board, above, k);
+    page.field(b"row=", k as u64);
+    page.field(b" C=", u64::from(row.c));
+    page.field(b" D=", u64::from(row.d));
+    page.field(b" T=", u64::from(row.t));
+    page.field(b" used=", used);
+    page.byte(b'\n');
 }
 
 // The same with its level in front.
-fn put_level(
-    words: &[u32],
-    m: u32,
-    above: Set,
-    level: usize,
-    k: usize,
-    out: &mut [u8],
-    at: usize,
-) -> usize
-    requires { Room at (at_level level (row_line words.now m (has above) k)) }
-    ensures { Puts out.old at (at_level level (row_line words.now m (has above) k)) out.new result }
+fn put_level(table: Table<'_>, above: Set, level: usize, k: usize, page: &mut Page<'_>)
+    ensures { page.new
+        ≡ put page.old (at_level level (row_line table.entry.words.now table.entry.m (has above) k)) }
 {
-    let mut end = put_decimal(level as u64, out, at);
-    end = put_byte(b' ', out, end);
-    put_row(words, m, above, k, out, end)
+    page.decimal(level as u64);
+    page.byte(b' ');
+    put_row(table, above, k, page);
 }
 
 // A line for each level, from the highest.
-pub(crate) fn put_levels(words: &[u32], m: u32, order: &[u8], out: &mut [u8], at: usize) -> usize
-    requires { Room at (lines (length order.now) (level_line words.now m order.now)) }
-    ensures { Puts out.old at (lines (length order.now) (level_line words.now m order.now)) out.new result }
+pub(crate) fn put_levels(table: Table<'_>, order: &[u8], page: &mut Page<'_>)
+    ensures { page.new
+        ≡ put page.old (lines (length order.now) (level_line table.entry.words.now table.entry.m order.now)) }
 {
-    let mut above = Set { low: 0, high: 0 };
-    let mut end = at;
-    let mut j: usize = 0;
-    while j < order.len() {
-        let k = order[j] as usize;
-        end = put_level(words, m, above, j + 1, k, out, end);
+    let mut above = Set::NONE;
+    for (j, &entry) in order.iter().enumerate() {
+        let k = usize::from(entry);
+        put_level(table, above, j + 1, k, page);
         above = above.with(k);
-        j += 1;
     }
-    end
 }
 
-// Row i with the other members above it, where it is a member.
-fn put_member(words: &[u32], m: u32, group: Set, i: usize, out: &mut [u8], at: usize) -> usize
-    requires { Room at (member_line words.now m (has group) i) }
-    ensures { Puts out.old at (member_line words.now m (has group) i) out.new result }
+// A line for each member, by rising row, with the other members above it.
+pub(crate) fn put_members(table: Table<'_>, group: Set, page: &mut Page<'_>)
+    ensures { page.new
+        ≡ put page.old (lines (row_count table.entry.words.now) (member_line table.entry.words.now table.entry.m (has group))) }
 {
-    if group.has(i) {
-        return put_row(words, m, group.without(i), i, out, at);
+    for i in group.rows(rows::row_count(table.words)) {
+        put_row(table, group.without(i), i, page);
     }
-    at
-}
-
-// A line for each member, by rising row.
-pub(crate) fn put_members(words: &[u32], m: u32, group: Set, out: &mut [u8], at: usize) -> usize
-    requires { Room at (lines (row_count words.now) (member_line words.now m (has group))) }
-    ensures { Puts out.old at (lines (row_count words.now) (member_line words.now m (has group))) out.new result }
-{
-    let n = rows::row_count(words);
-    let mut end = at;
-    let mut i: usize = 0;
-    while i < n {
-        end = put_member(words, m, group, i, out, end);
-        i += 1;
-    }
-    end
 }

@@ -1,6 +1,6 @@
 -- Laws of tables: what a row that was read is, what a table that passed its checks is, and how the checks of a table stand before others.
 -- Assumes nothing.
-use Rattle.std.specs.Prelude.{ℕ, ◌+◌, ◌*◌, ◌/◌, ◌%◌, ◌≤◌, ◌<◌, min, ◌≡◌, refl, Bool, true, false, ◌&&◌, cond, List, [], ◌∷◌, ◌++◌, leb, eqb, length, get_or}
+use Rattle.std.specs.Prelude.{ℕ, ◌+◌, ◌*◌, ◌/◌, ◌%◌, ◌≤◌, ◌<◌, min, ◌≡◌, refl, Bool, true, false, ◌&&◌, cond, Some, None, is_none, List, [], ◌∷◌, ◌++◌, leb, eqb, length, get_or}
 use Rattle.std.proofs.Common.{ap, ◌∙◌, ⊎_elim, arith, leb-true, leb-false, le-leb, eqb-true, eq-eqb, ne_eqb}
 use Rattle.std.proofs.Math.ListN.{get_or-eq_default}
 use Rattle.std.proofs.lemmas.Bool.{lt-leb, not-false}
@@ -9,10 +9,8 @@ use Rattle.sets.specs.SumLaws.{first_is}
 use Rattle.rows.specs.Known.{Ranged, Valid}
 use Rattle.rows.specs.Judge.{Check, check, check_at, judge}
 use Rattle.rows.specs.Numbers.{done, table_length, cores, row_range}
-use Rattle.rows.specs.Table.{in_range, words_at, read_at, faulty, table, row_count, first_fault, table_checks, table_fault}
+use Rattle.rows.specs.Table.{Checked, in_range, words_at, read_at, faulty, table, row_count, first_fault, table_checks, table_fault}
 use Rattle.rows.specs.declared.table.Row.{Row}
-use Rattle.rows.specs.declared.table.RowRead.TheVariants.{Fine, Fault}
-use Rattle.rows.specs.declared.table.Checked.{Checked}
 
 -- ---- rows
 
@@ -39,15 +37,15 @@ past_fault words i h =
     (λ e. e)
     (either (in_range (words_at words i)))
 
-pub read_in_range : (words : List ℕ) (i : ℕ) → in_range (words_at words i) ≡ true → read_at words i ≡ Fine (words_at words i)
+pub read_in_range : (words : List ℕ) (i : ℕ) → in_range (words_at words i) ≡ true → read_at words i ≡ Some (words_at words i)
 unfolding read_at
 read_in_range words i e = rw e refl
 
-pub read_out_of_range : (words : List ℕ) (i : ℕ) → in_range (words_at words i) ≡ false → read_at words i ≡ Fault
+pub read_out_of_range : (words : List ℕ) (i : ℕ) → in_range (words_at words i) ≡ false → read_at words i ≡ None
 unfolding read_at
 read_out_of_range words i e = rw e refl
 
-pub read_fault : (words : List ℕ) (i : ℕ) → read_at words i ≡ Fault → faulty words i ≡ true
+pub read_fault : (words : List ℕ) (i : ℕ) → read_at words i ≡ None → faulty words i ≡ true
 read_fault words i h =
     ⊎_elim
     (λ (e : in_range (words_at words i) ≡ true).
@@ -56,13 +54,20 @@ read_fault words i h =
     (λ (e : in_range (words_at words i) ≡ false). rw e refl)
     (either (in_range (words_at words i)))
 
+-- no row is read exactly where it is at fault
+pub read_none : (words : List ℕ) (i : ℕ) → is_none (read_at words i) ≡ faulty words i
+unfolding read_at
+read_none words i =
+    ⊎_elim (λ (e : in_range (words_at words i) ≡ true). rw e refl) (λ (e : in_range (words_at words i) ≡ false). rw e refl)
+    (either (in_range (words_at words i)))
+
 -- a row that was read: its words, in range
 pub record Read (words : List ℕ) (i : ℕ) (r : Row) : Type 0 where
   pub words_are : words_at words i ≡ r
   pub fair : faulty words i ≡ false
   pub ranged : Ranged r
 
-pub read_fine : (words : List ℕ) (i : ℕ) (r : Row) → read_at words i ≡ Fine r → Read words i r
+pub read_fine : (words : List ℕ) (i : ℕ) (r : Row) → read_at words i ≡ Some r → Read words i r
 read_fine words i r h =
     ⊎_elim
     (λ (e : in_range (words_at words i) ≡ true).

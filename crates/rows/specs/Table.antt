@@ -1,13 +1,15 @@
 -- A table: its rows, their ranges, and the checks 1, 2 and 3 (document 01, "Table" and "Numbers answered").
 -- Assumes nothing.
-use Rattle.std.specs.Prelude.{ℕ, ◌+◌, ◌*◌, ◌/◌, ◌%◌, min, Bool, not, ◌&&◌, cond, List, [], ◌∷◌, leb, eqb, length, get_or}
+use Rattle.std.specs.Prelude.{ℕ, ◌+◌, ◌*◌, ◌/◌, ◌%◌, min, Bool, not, ◌&&◌, cond, Option, Some, None, List, [], ◌∷◌, leb, eqb, length, get_or}
 use Rattle.sets.specs.Sums.{first}
 use Rattle.rows.specs.Judge.{Check, check, check_at, judge}
 use Rattle.rows.specs.Numbers.{done, table_length, cores, row_range}
 use Rattle.rows.specs.declared.table.Row.{Row}
-use Rattle.rows.specs.declared.table.RowRead.{RowRead}
-use Rattle.rows.specs.declared.table.RowRead.TheVariants.{Fine, Fault}
-use Rattle.rows.specs.declared.table.Checked.{Checked}
+
+-- what the checks of a table answer: the number, and with 3 the lowest row at fault
+pub record Checked : Type 0 where
+  pub number : ℕ
+  pub row : ℕ
 
 -- 1 ≤ C ≤ D ≤ T ≤ 10,000,000
 unfoldable pub in_range : Row → Bool
@@ -18,14 +20,14 @@ abbrev pub words_at : List ℕ → ℕ → Row
 words_at words i =
     record { c = get_or words (3 * i) 0; d = get_or words (3 * i + 1) 0; t = get_or words (3 * i + 2) 0 }
 
--- row i as it is read: the row, or its fault
-unfoldable pub read_at : List ℕ → ℕ → RowRead
-read_at words i = cond (in_range (words_at words i)) (Fine (words_at words i)) Fault
+-- row i as it is read: the row, or none where it is at fault
+unfoldable pub read_at : List ℕ → ℕ → Option Row
+read_at words i = cond (in_range (words_at words i)) (Some (words_at words i)) None
 
 -- the row that was read; a fault stands for a row that never works
-abbrev pub row_of : RowRead → Row
-row_of (Fine r) = r
-row_of Fault = record { c = 0; d = 0; t = 0 }
+abbrev pub row_of : Option Row → Row
+row_of (Some r) = r
+row_of None = record { c = 0; d = 0; t = 0 }
 
 -- the table that the words are: row i of it
 abbrev pub table : List ℕ → ℕ → Row

@@ -1,4 +1,4 @@
-// The numbers answered. specs/Numbers.antt has the same names.
+// The numbers answered, as C and the exam have them; in Rattle a refusal is a `Refusal`. specs/Numbers.antt has the same names.
 
 pub const DONE: u32 = 0;
 

@@ -3,7 +3,7 @@ ghost use Rattle.std.specs.Prelude.{◌≡◌};
 ghost use Rattle.rows.specs.Board.{limited as board_limited};
 
 // The cores, and how many of the rows above count with their carry-in.
-#[derive(Clone, Copy)]
+#[derive(Clone, Copy, Debug, PartialEq, Eq)]
 pub struct Terms {
     pub m: u32,
     pub carried: u32,
@@ -13,8 +13,8 @@ pub struct Terms {
 pub fn limited(m: u32) -> Terms
     ensures { result ≡ board_limited m }
 {
-    if m == 0 {
-        return Terms { m, carried: 0 };
+    Terms {
+        m,
+        carried: m.saturating_sub(1),
     }
-    Terms { m, carried: m - 1 }
 }

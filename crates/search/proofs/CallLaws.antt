@@ -12,7 +12,7 @@ use Rattle.rows.specs.Table.{table_fault}
 use Rattle.rows.proofs.TableLaws.{judge_refused, judge_passed, row_count_most, fault_most}
 use Rattle.rows.specs.Board.{Board, board_of}
 use Rattle.rows.specs.declared.terms.Terms.{Terms}
-use Rattle.rows.specs.declared.table.Checked.{Checked}
+use Rattle.rows.specs.Table.{Checked}
 use Rattle.test.specs.Test.{passes}
 use Rattle.test.proofs.TestLaws.{passes_antitone}
 use Rattle.search.specs.Search.{rows_below, free}
@@ -108,7 +108,7 @@ module _ (words : List ℕ) (terms : Terms) where
       found_short l = judge_passed words terms.m space refusal (found_by b.n (search_of b)) passed ∙ rw (lt-leb b.n room l) refl
 
       module _ (fits : b.n ≤ room) where
-        found_searched : found_of words terms room ≡ found_by b.n (search_of b)
+        pub found_searched : found_of words terms room ≡ found_by b.n (search_of b)
         unfolding found_of space
         found_searched = judge_passed words terms.m space refusal (found_by b.n (search_of b)) passed ∙ rw (le-leb b.n room fits) refl
 

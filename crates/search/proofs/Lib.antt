@@ -1,1 +1,5 @@
 pub mod CallLaws
+pub mod ScanLaws
+pub mod ToldLaws
+pub mod EarlierForms
+pub mod EarlierSteps

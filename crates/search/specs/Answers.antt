@@ -1,8 +1,9 @@
 -- What the search answers, in one call and in quota steps, for all inputs (document 01, "Audsley's search" and "Numbers answered").
 -- Assumes nothing.
-use Rattle.std.specs.Prelude.{ℕ, ◌+◌, ◌≤◌, ◌≡◌, ◌⊎◌, Bool, ◌&&◌, cond, List, [], ◌∷◌, ◌++◌, leb, eqb, length, take, drop}
+use Rattle.std.specs.Prelude.{ℕ, ◌+◌, ◌-◌, ◌≤◌, ◌≡◌, ◌⊎◌, Bool, ◌&&◌, cond, Option, List, [], ◌∷◌, ◌++◌, leb, eqb, length, take, drop, replicate}
 use Rattle.rows.specs.Judge.{check, judge}
 use Rattle.rows.specs.Numbers.{done, blocked, unsound, short_output, unfinished}
+use Rattle.sets.specs.Sums.{first, some_below}
 use Rattle.sets.specs.Sets.{has, set_of, without, none, without_row}
 use Rattle.rows.specs.Table.{row_count, table_checks}
 use Rattle.rows.specs.Board.{Board, board_of}
@@ -15,8 +16,6 @@ use Rattle.search.specs.State.{placed_rows, progress_of, state_of, placed_at, or
 use Rattle.search.specs.declared.state.State.{State}
 use Rattle.search.specs.declared.ended.Ended.{Ended}
 use Rattle.search.specs.declared.call.Found.{Found}
-use Rattle.search.specs.declared.steps.Stepped.{Stepped}
-use Rattle.search.specs.declared.steps.Stand.{Stand}
 
 -- the search of a board, and some of its tests from where a search has come
 abbrev pub search_of : Board → Run
@@ -48,6 +47,10 @@ ended_by n dom r =
       left = set_of (free dom r.progress.placed);
       tests = r.tests;
     }
+
+-- before any test
+abbrev pub unended : Set → Ended
+unended dom = record { order = replicate 96 255; placed = 0; left = dom; tests = 0 }
 
 unfoldable pub ended_of : Board → (ℕ → Bool) → Ended
 ended_of b dom = ended_by b.n dom (search b.n dom (passes b))
@@ -85,6 +88,14 @@ pub record Demanded (b : Board) (r : Found) (out : List ℕ) : Type 0 where
   pub bounded : r.tests ≤ bound b.n
 
 -- ---- quota steps
+
+-- what a step answers: the number, with 3 the lowest row at fault, with 4 the blocked group, the tests made in this call, and the new state
+pub record Stepped : Type 0 where
+  pub number : ℕ
+  pub row : ℕ
+  pub group : Set
+  pub tests : ℕ
+  pub state : State
 
 abbrev pub handed_back : State → ℕ → ℕ → Stepped
 handed_back s number place = record { number = number; row = place; group = none; tests = 0; state = s }
@@ -126,6 +137,19 @@ pub record StepDemanded (b : Board) (s : State) (quota : ℕ) (r : Stepped) : Ty
 -- row i is left and passes with the others that are left above it
 abbrev pub passing : ((ℕ → Bool) → ℕ → Bool) → (ℕ → Bool) → ℕ → Bool
 passing test H i = H i && test (without H i) i
+
+-- the first row left that passes; n where none does
+abbrev pub first_passing : Board → Set → ℕ
+first_passing b left = first (passing (passes b) (has left)) b.n 0
+
+-- the row of the next test: the first from the cursor on that is left, none where none is
+abbrev pub next_left : ℕ → Set → ℕ → Option ℕ
+next_left n left cursor = some_below (first (has left) (n - cursor) cursor) n
+
+-- a state, and the rows that it leaves unplaced
+pub record Stand : Type 0 where
+  pub state : State
+  pub left : Set
 
 -- after a test of row k with the others that are left above it
 abbrev pub probed_of : Board → State → Set → ℕ → Stand

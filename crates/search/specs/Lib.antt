@@ -2,6 +2,7 @@ pub mod Search
 pub mod Demand
 pub mod State
 pub mod Answers
+pub mod Told
 pub mod FreeLaws
 pub mod StrandLaws
 pub mod OrderLaws

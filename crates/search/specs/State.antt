@@ -1,6 +1,8 @@
 -- The search state that callers hold, and what it stands for (document 01, "Quota steps").
 -- Assumes nothing.
-use Rattle.std.specs.Prelude.{ℕ, zero, suc, ◌+◌, ◌-◌, Bool, true, ◌&&◌, List, [], ◌∷◌, ◌++◌, leb, eqb, length, get_or, take, drop, set, replicate}
+use Rattle.std.specs.Prelude.{ℕ, zero, suc, ◌+◌, ◌-◌, Bool, true, ◌&&◌, cond, Option, Some, None, List, [], ◌∷◌, ◌++◌, leb, eqb, length, get_or, take, drop, set, replicate}
+use Rattle.sets.specs.Sets.{set_of}
+use Rattle.sets.specs.declared.Set.{Set}
 use Rattle.search.specs.Search.{rows_below, free, Progress}
 use Rattle.search.specs.declared.state.State.{State}
 
@@ -45,3 +47,9 @@ unfoldable pub sound : ℕ → State → Bool
 sound n s =
     leb s.placed n && leb s.cursor n && blank_from s.order (n - s.placed) 0 && blank_from s.order (96 - n) n
     && distinct n (placed_rows n s)
+
+-- ---- parts of the code
+
+-- the rows that a sound state leaves unplaced, none where it is not sound
+unfoldable pub left_of : ℕ → State → Option Set
+left_of n s = cond (sound n s) (Some (set_of (free (rows_below n) (placed_rows n s)))) None

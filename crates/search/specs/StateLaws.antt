@@ -1,16 +1,18 @@
 -- Laws of the search state: the order of a row placed, the rows placed and unplaced level by level, blank entries, and that a sound state
 -- and what it stands for tell the same.
 -- Assumes nothing.
-use Rattle.std.specs.Prelude.{ℕ, zero, suc, ◌+◌, ◌-◌, ◌≤◌, ◌<◌, ◌≡◌, refl, Bool, true, false, ◌&&◌, List, [], ◌∷◌, ◌++◌, leb, ltb, eqb, length, get_or, take, drop, set, replicate}
-use Rattle.std.proofs.Common.{sym, ap, ap₂, ◌∙◌, ⊎_elim, append_assoc, arith, add-one, zero-add, length-append, length-drop, take-append-drop, take_at, drop_at, drop-cons, drop-drop, take_all, length-take-le, eqb-true, eq-eqb, ne_eqb, ltb-true, ltb-false, le-ltb, leb-true, le-leb}
+use Rattle.std.specs.Prelude.{ℕ, zero, suc, ◌+◌, ◌-◌, ◌≤◌, ◌<◌, ◌≡◌, refl, Bool, true, false, ◌&&◌, Some, None, List, [], ◌∷◌, ◌++◌, leb, ltb, eqb, length, get_or, take, drop, set, replicate}
+use Rattle.std.proofs.Common.{sym, ap, ap₂, ◌∙◌, ⊎_elim, append_assoc, append-nil, arith, length-append, length-drop, take-append-drop, take_at, drop_at, drop-cons, drop-drop, take_all, length-take-le, eqb-true, ltb-true, ltb-false, le-ltb, leb-true, le-leb, add-one, zero-add, eq-eqb, ne_eqb}
 use Rattle.std.proofs.Math.Bool.{and-true, and-false}
 use Rattle.std.proofs.lemmas.List.{length-replicate, replicate-append-replicate, set_at}
+use Rattle.std.proofs.lemmas.Option.{none-some}
+use Rattle.std.specs.List.{list_all}
 use Rattle.sets.specs.BoolLaws.{either, not_both, and_left, and_right}
 use Rattle.sets.specs.Sets.{has, set_of, without, below, without_row}
 use Rattle.sets.specs.SetLaws.{FitsWords, has_set_of, has_set_of_above, set_of_has, set_ext}
 use Rattle.search.specs.Search.{rows_below, free, Progress}
 use Rattle.search.specs.OrderLaws.{Distinct}
-use Rattle.search.specs.State.{rows_placed, placed_rows, order_of, progress_of, state_of, fresh_state, distinct, blank_from, sound}
+use Rattle.search.specs.State.{rows_placed, placed_rows, order_of, progress_of, state_of, fresh_state, distinct, blank_from, sound, left_of}
 use Rattle.sets.specs.declared.Set.{Set}
 use Rattle.search.specs.declared.state.State.{State}
 
@@ -108,6 +110,11 @@ distinct_fails n order i placed h m l f =
     (λ (e : distinct n (rows_placed n order placed) ≡ false). e)
     (either (distinct n (rows_placed n order placed)))
 
+-- distinct rows are distinct from every level down
+distinct_back : (n : ℕ) (p q : List ℕ) → distinct n (p ++ q) ≡ true → distinct n q ≡ true
+distinct_back n [] q h = h
+distinct_back n (k ∷ p) q h = distinct_back n p q (and_right (free (rows_below n) (p ++ q) k) (distinct n (p ++ q)) h)
+
 -- ---- the mask of the rows unplaced
 
 -- of any rows that a mask has bits for
@@ -156,6 +163,37 @@ module _ (n : ℕ) (order : List ℕ) (i : ℕ) (h : i < n) (most : n ≤ 96) (l
       ≡ set_of (free (rows_below n) (rows_placed n order (i + 1)))
   unplaced_next = rw (rows_more n order i h l) (less_unplaced n (rows_placed n order i) (get_or order (n - 1 - i) 0))
 
+-- ---- the rows placed, taken out of those below n from the lowest level up
+
+-- the levels of `front` are left: those below them have distinct rows, and the mask has the others
+pub record Takes (n : ℕ) (p front : List ℕ) (rows : Set) : Type 0 where
+  pub back : List ℕ
+  pub whole : p ≡ front ++ back
+  pub distinct : distinct n back ≡ true
+  pub unplaced : rows ≡ set_of (free (rows_below n) back)
+
+pub takes_start : (n : ℕ) (p : List ℕ) → Takes n p p (below n)
+takes_start n p = record { back = []; whole = sym (append-nil p); distinct = refl; unplaced = all_unplaced n }
+
+-- the row of the next level is distinct from those below it exactly when the mask has it
+module _ {n : ℕ} {p : List ℕ} (front : List ℕ) {rows : Set} (x : ℕ) (most : n ≤ 96) (T : Takes n p (front ++ (x ∷ [])) rows) where
+  split : p ≡ front ++ (x ∷ T.back)
+  split = T.whole ∙ append_assoc front (x ∷ []) T.back
+
+  told : distinct n (x ∷ T.back) ≡ has rows x
+  told = rw (T.distinct, and-true, T.unplaced) (sym (has_unplaced n T.back x most))
+
+  pub takes_next : has rows x ≡ true → Takes n p front (without_row rows x)
+  takes_next h =
+      record { back = x ∷ T.back; whole = split; distinct = told ∙ h; unplaced = rw T.unplaced (less_unplaced n T.back x) }
+
+  pub takes_fails : has rows x ≡ false → distinct n p ≡ false
+  takes_fails h =
+      ⊎_elim
+      (λ (e : distinct n p ≡ true). not_both (distinct_back n front (x ∷ T.back) (rw split at e)) (told ∙ h))
+      (λ (e : distinct n p ≡ false). e)
+      (either (distinct n p))
+
 -- ---- blank entries
 
 module _ (order : List ℕ) (to i : ℕ) (h : i < to) where
@@ -170,6 +208,12 @@ module _ (order : List ℕ) (to i : ℕ) (h : i < to) where
 
 pub blank_end : (order : List ℕ) (to i : ℕ) → to ≤ i → blank_from order (to - i) i ≡ true
 blank_end order to i h = let e : to - i ≡ 0 = omega arith in rw e refl
+
+-- as a test of each entry
+pub blank_all : (order : List ℕ) (d i : ℕ) → i + d ≤ length order → list_all (λ x. eqb x 255) (take d (drop i order)) ≡ blank_from order d i
+blank_all order zero i h = refl
+blank_all order (suc d) i h =
+    rw (drop-cons order i 0 (omega arith)) (ap (λ (b : Bool). eqb (get_or order i 0) 255 && b) (blank_all order d (suc i) (omega arith)))
 
 -- the entries that the test takes are a list of 255
 blank_is : (order : List ℕ) (d i : ℕ) → i + d ≤ length order → blank_from order d i ≡ true → take d (drop i order) ≡ blanks d
@@ -236,6 +280,22 @@ pub sound_rows : (n : ℕ) (s : State) → s.placed ≤ n → s.cursor ≤ n →
     → blank_from s.order (96 - n) n ≡ true → sound n s ≡ distinct n (placed_rows n s)
 unfolding sound
 sound_rows n s a b e f = rw (le-leb s.placed n a, le-leb s.cursor n b, e, f) refl
+
+-- the rows left of a sound state, and that none are of another
+pub left_is : (n : ℕ) (s : State) (left : Set) → left_of n s ≡ Some left
+    → (sound n s ≡ true) × (left ≡ set_of (free (rows_below n) (placed_rows n s)))
+unfolding left_of
+left_is n s left e =
+    ⊎_elim (λ (b : sound n s ≡ true). (b, (let h = rw b at e in cc)))
+    (λ (b : sound n s ≡ false). absurd (none-some left (rw b at e)))
+    (either (sound n s))
+
+pub left_none : (n : ℕ) (s : State) → left_of n s ≡ None → sound n s ≡ false
+unfolding left_of
+left_none n s e =
+    ⊎_elim (λ (b : sound n s ≡ true). absurd (none-some (set_of (free (rows_below n) (placed_rows n s))) (sym (rw b at e))))
+    (λ (b : sound n s ≡ false). b)
+    (either (sound n s))
 
 -- a sound state stands for distinct rows
 pub sound_distinct : (n : ℕ) (s : State) → sound n s ≡ true → Distinct (rows_below n) (placed_rows n s)

@@ -1,6 +1,6 @@
 -- Laws of quota steps: one probe of the code, where a run of probes stands and how it ends, the answer by the check that decides it, and what it is held to.
 -- Assumes nothing.
-use Rattle.std.specs.Prelude.{ℕ, zero, suc, ◌+◌, ◌-◌, ◌≤◌, ◌<◌, ◌≡◌, ◌⊎◌, Bool, length, List, [], ◌∷◌}
+use Rattle.std.specs.Prelude.{Option, Some, None, ℕ, zero, suc, ◌+◌, ◌-◌, ◌≤◌, ◌<◌, ◌≡◌, ◌⊎◌, Bool, length, List, [], ◌∷◌}
 use Rattle.std.proofs.Common.{◌∙◌, inl, inr, add-one, arith, eqb-true, eq-eqb, ne_eqb, le-leb, ltb-true}
 use Rattle.std.proofs.Math.Bool.{true, false}
 use Rattle.std.proofs.Math.Dec.{eqb}
@@ -10,7 +10,7 @@ use Rattle.std.proofs.Math.Path.{refl, sym, ap, ap₂, fun_ext, subst}
 use Rattle.std.proofs.lemmas.Bool.{eqb-false}
 use Rattle.std.proofs.lemmas.Bool.{lt-leb}
 use Rattle.sets.specs.Sums.{first}
-use Rattle.sets.specs.SumLaws.{count_at}
+use Rattle.sets.specs.SumLaws.{count_at, some_below_some, some_below_none}
 use Rattle.sets.specs.BoolLaws.{either}
 use Rattle.rows.specs.Judge.{Check, check}
 use Rattle.rows.specs.Numbers.{done, blocked, unsound, unfinished}
@@ -27,19 +27,19 @@ use Rattle.search.specs.Demand.{Truth}
 use Rattle.search.specs.OrderLaws.{Distinct, tally}
 use Rattle.search.specs.SearchLaws.{next_is, run_finished, run_add, run_quota, run_bound, fresh_potential}
 use Rattle.search.specs.DemandLaws.{rows_below_lem, rows_count, distinct_most, steps_truth}
-use Rattle.search.specs.State.{placed_rows, progress_of, state_of, placed_at, sound}
-use Rattle.search.specs.StateLaws.{order_place, rows_placed_lem, progress_of_state, has_unplaced, less_unplaced, sound_distinct, sound_state}
-use Rattle.search.specs.Answers.{run_of, number_of, group_of, handed_back, stepped_by, work_of, stepped_of, StepDemanded, probed_of}
+use Rattle.search.specs.State.{placed_rows, progress_of, state_of, placed_at, sound, left_of}
+use Rattle.search.specs.Tally.{IsLeft}
+use Rattle.search.specs.StateLaws.{order_place, rows_placed_lem, progress_of_state, has_unplaced, less_unplaced, sound_distinct, sound_state, left_is}
+use Rattle.search.specs.Answers.{run_of, number_of, group_of, handed_back, next_left, stepped_by, work_of, stepped_of, StepDemanded, probed_of, Stand}
 use Rattle.search.specs.AnswerLaws.{number_unfinished, number_finished, group_blocked}
 use Rattle.search.specs.TestOfLaws.{test_without, test_mask}
 use Rattle.search.specs.declared.state.State.{State}
-use Rattle.search.specs.declared.steps.Stepped.{Stepped}
-use Rattle.search.specs.declared.steps.Stand.{Stand}
+use Rattle.search.specs.Answers.{Stepped}
 
 -- ---- distinct rows
 
 -- they are fewer than n where a row is still to be tested
-distinct_less : (n : ℕ) (test : (ℕ → Bool) → ℕ → Bool) (p : Progress) → Distinct (rows_below n) p.placed → finished n (rows_below n) p ≡ false
+pub distinct_less : (n : ℕ) (test : (ℕ → Bool) → ℕ → Bool) (p : Progress) → Distinct (rows_below n) p.placed → finished n (rows_below n) p ≡ false
     → length p.placed < n
 distinct_less n test p D f =
     let N = next_is n (rows_below n) test p f in
@@ -50,7 +50,7 @@ tested_distinct : (dom : ℕ → Bool) (p : List ℕ) (k : ℕ) → free dom p k
 tested_distinct dom p k f D true = (f, D)
 tested_distinct dom p k f D false = D
 
-probe_distinct : (n : ℕ) (dom : ℕ → Bool) (test : (ℕ → Bool) → ℕ → Bool) (p : Progress) → finished n dom p ≡ false → Distinct dom p.placed
+pub probe_distinct : (n : ℕ) (dom : ℕ → Bool) (test : (ℕ → Bool) → ℕ → Bool) (p : Progress) → finished n dom p ≡ false → Distinct dom p.placed
     → Distinct dom (probe n dom test p).placed
 unfolding probe
 probe_distinct n dom test p f D =
@@ -77,11 +77,11 @@ module _ (b : Board) (s : State) (left : Set) (k : ℕ) where
   probed_failed e = rw e refl
 
 -- the code's stand for a progress
-abbrev stand_of : ℕ → Progress → Stand
+abbrev pub stand_of : ℕ → Progress → Stand
 stand_of n p = record { state = state_of n p; left = set_of (free (rows_below n) p.placed) }
 
 -- the code's probe of it is the stand for the progress after the test
-probed_tested : (b : Board) → b.n ≤ 96 → (p : Progress) (k : ℕ) → length p.placed < b.n
+pub probed_tested : (b : Board) → b.n ≤ 96 → (p : Progress) (k : ℕ) → length p.placed < b.n
     → probed_of b (state_of b.n p) (set_of (free (rows_below b.n) p.placed)) k
     ≡ stand_of b.n (tested p.placed k (passes b (without (free (rows_below b.n) p.placed) k) k))
 probed_tested b most p k h =
@@ -98,92 +98,97 @@ probed_tested b most p k h =
 
 -- ---- where a run stands
 
--- After some tests of its quota a run from state s stands at a progress of distinct rows, with the row of the next test, and what is
--- left of the quota makes the rest of the run.
-pub record Stands (b : Board) (quota : ℕ) (s : State) (st : Stand) (tests k : ℕ) : Type 0 where
+-- After some tests of its quota a run from state s stands at a progress of distinct rows, and what is left of the quota makes the rest of
+-- the run.
+pub record Stands (b : Board) (quota : ℕ) (s : State) (st : Stand) (tests : ℕ) : Type 0 where
   pub progress : Progress
   pub stand_is : st ≡ stand_of b.n progress
   pub distinct : Distinct (rows_below b.n) progress.placed
-  pub row_is : k ≡ next b.n (rows_below b.n) progress
   pub same : (run b.n (rows_below b.n) (passes b) quota (progress_of b.n s)).progress
       ≡ (run b.n (rows_below b.n) (passes b) (quota - tests) progress).progress
   pub made : (run b.n (rows_below b.n) (passes b) quota (progress_of b.n s)).tests
       ≡ tests + (run b.n (rows_below b.n) (passes b) (quota - tests) progress).tests
 
 -- the first row that the mask has is that of the next test
-next_is_first : (n : ℕ) (p : Progress) → n ≤ 96
+pub next_is_first : (n : ℕ) (p : Progress) → n ≤ 96
     → first (has (set_of (free (rows_below n) p.placed))) (n - p.cursor) p.cursor ≡ next n (rows_below n) p
 unfolding next
 next_is_first n p h = ap (λ (H : ℕ → Bool). first H (n - p.cursor) p.cursor) (fun_ext (λ i. has_unplaced n p.placed i h))
 
--- and it tells whether the run is finished
-next_finished : (n : ℕ) (p : Progress) (k : ℕ) → k ≡ next n (rows_below n) p → n ≤ k → finished n (rows_below n) p ≡ true
-unfolding finished
-next_finished n p k e h = le-leb n (next n (rows_below n) p) (rw e at h)
-
-next_unfinished : (n : ℕ) (p : Progress) (k : ℕ) → k ≡ next n (rows_below n) p → k < n → finished n (rows_below n) p ≡ false
-unfolding finished
-next_unfinished n p k e h = lt-leb n (next n (rows_below n) p) (rw e at h)
-
-pub stands_start : {b : Board} {quota : ℕ} {s : State} {left : Set} {k : ℕ} → b.n ≤ 96 → length s.order ≡ 96 → sound b.n s ≡ true
-    → left ≡ set_of (free (rows_below b.n) (placed_rows b.n s)) → k ≡ first (has left) (b.n - s.cursor) s.cursor
-    → Stands b quota s (record { state = s; left = left }) 0 k
-stands_start {b = b} {s = s} most size h e r =
+pub stands_start : {b : Board} {quota : ℕ} {s : State} {left : Set} → b.n ≤ 96 → length s.order ≡ 96 → left_of b.n s ≡ Some left
+    → Stands b quota s (record { state = s; left = left }) 0
+stands_start {b = b} {s = s} {left = left} most size e =
+    let is = left_is b.n s left e in
     record {
       progress = progress_of b.n s;
-      stand_is = ap₂ (λ (t : State) (l : Set). record { state = t; left = l }) (sound_state b.n s size most h) e;
-      distinct = sound_distinct b.n s h;
-      row_is = rw e at r ∙ next_is_first b.n (progress_of b.n s) most;
+      stand_is = ap₂ (λ (t : State) (l : Set). record { state = t; left = l }) (sound_state b.n s size most is.0) is.1;
+      distinct = sound_distinct b.n s is.0;
       same = rw sub-zero refl;
       made = rw sub-zero (omega arith);
     }
 
-module _ {b : Board} {quota : ℕ} {s : State} {st : Stand} {tests k : ℕ} (S : Stands b quota s st tests k) where
-  pub stands_placed : k < b.n → st.state.placed < b.n
-  stands_placed h =
-      rw S.stand_is (distinct_less b.n (passes b) S.progress S.distinct (next_unfinished b.n S.progress k S.row_is h))
+module _ {b : Board} {quota : ℕ} {s : State} {st : Stand} {tests : ℕ} (S : Stands b quota s st tests) (most : b.n ≤ 96) where
+  abbrev found : Option ℕ
+  found = next_left b.n st.left st.state.cursor
 
-  -- the row of the next test is one that is left
-  pub stands_left : b.n ≤ 96 → k < b.n → has st.left k ≡ true
-  stands_left most h =
-      let p = S.progress in
-      let free-row = (next_is b.n (rows_below b.n) (passes b) p (next_unfinished b.n p k S.row_is h)).is_free in
-      rw S.stand_is (has_unplaced b.n p.placed k most ∙ rw (← S.row_is) at free-row)
+  row_is : first (has st.left) (b.n - st.state.cursor) st.state.cursor ≡ next b.n (rows_below b.n) S.progress
+  row_is = rw S.stand_is (next_is_first b.n S.progress most)
 
-  -- one probe takes it one test on
-  pub stands_probe : b.n ≤ 96 → k < b.n → tests < quota → {st' : Stand} {k' : ℕ} → st' ≡ probed_of b st.state st.left k
-      → k' ≡ first (has st'.left) (b.n - st'.state.cursor) st'.state.cursor → Stands b quota s st' (tests + 1) k'
-  unfolding probe
-  stands_probe most h l {st'} e r =
-      let p = S.progress in
-      let test = passes b in
-      let p' = probe b.n (rows_below b.n) test p in
-      let f = next_unfinished b.n p k S.row_is h in
-      let is : st' ≡ stand_of b.n p' =
-      e ∙ ap₂ (λ (t : Stand) (j : ℕ). probed_of b t.state t.left j) S.stand_is S.row_is
-      ∙ probed_tested b most p (next b.n (rows_below b.n) p) (distinct_less b.n test p S.distinct f)
-      in
-      let rest : quota - tests ≡ suc (quota - (tests + 1)) = omega arith in
-      record {
-        progress = p';
-        stand_is = is;
-        distinct = probe_distinct b.n (rows_below b.n) test p f S.distinct;
-        row_is =
-            r ∙ ap (λ (t : Stand). first (has t.left) (b.n - t.state.cursor) t.state.cursor) is ∙ next_is_first b.n p' most;
-        same = rw (rest, f) at S.same;
-        made = omega (arith, rw (rest, f) at S.made);
-      }
+  -- with no row to test the run is finished
+  stands_finished : found ≡ None → finished b.n (rows_below b.n) S.progress ≡ true
+  unfolding finished
+  stands_finished e =
+      le-leb b.n (next b.n (rows_below b.n) S.progress) (rw row_is at (some_below_none (first (has st.left) (b.n - st.state.cursor) st.state.cursor) b.n e))
+
+  module _ {k : ℕ} (e : found ≡ Some k) where
+    row : (k ≡ next b.n (rows_below b.n) S.progress) × (next b.n (rows_below b.n) S.progress < b.n)
+    row = rw row_is at (some_below_some (first (has st.left) (b.n - st.state.cursor) st.state.cursor) b.n e)
+
+    stands_unfinished : finished b.n (rows_below b.n) S.progress ≡ false
+    unfolding finished
+    stands_unfinished = lt-leb b.n (next b.n (rows_below b.n) S.progress) row.1
+
+    pub stands_placed : st.state.placed < b.n
+    stands_placed = rw S.stand_is (distinct_less b.n (passes b) S.progress S.distinct stands_unfinished)
+
+    -- the row of the next test is one that is left
+    pub stands_left : IsLeft b.n st.left k
+    stands_left =
+        let p = S.progress in
+        let free-row = (next_is b.n (rows_below b.n) (passes b) p stands_unfinished).is_free in
+        (omega (arith, row.0, row.1), rw S.stand_is (has_unplaced b.n p.placed k most ∙ rw (← row.0) at free-row))
+
+    -- one probe takes it one test on
+    pub stands_probe : tests < quota → {st' : Stand} → st' ≡ probed_of b st.state st.left k → Stands b quota s st' (tests + 1)
+    unfolding probe
+    stands_probe l {st'} e =
+        let p = S.progress in
+        let test = passes b in
+        let p' = probe b.n (rows_below b.n) test p in
+        let f = stands_unfinished in
+        let is : st' ≡ stand_of b.n p' =
+        e ∙ ap₂ (λ (t : Stand) (j : ℕ). probed_of b t.state t.left j) S.stand_is row.0
+        ∙ probed_tested b most p (next b.n (rows_below b.n) p) (distinct_less b.n test p S.distinct f)
+        in
+        let rest : quota - tests ≡ suc (quota - (tests + 1)) = omega arith in
+        record {
+          progress = p';
+          stand_is = is;
+          distinct = probe_distinct b.n (rows_below b.n) test p f S.distinct;
+          same = rw (rest, f) at S.same;
+          made = omega (arith, rw (rest, f) at S.made);
+        }
 
 -- ---- how a run ends
 
 module _ (n : ℕ) (p : Progress) (tests : ℕ) (st : Stand) (is : st ≡ stand_of n p) where
-  answer_unfinished : finished n (rows_below n) p ≡ false
+  pub answer_unfinished : finished n (rows_below n) p ≡ false
       → record { number = unfinished; row = 0; group = none; tests = tests; state = st.state }
       ≡ stepped_by n (record { progress = p; tests = tests })
   unfolding number_of group_of
   answer_unfinished f = rw (is, f) refl
 
-  answer_blocked : finished n (rows_below n) p ≡ true → st.state.placed < n
+  pub answer_blocked : finished n (rows_below n) p ≡ true → st.state.placed < n
       → record { number = blocked; row = 0; group = st.left; tests = tests; state = st.state }
       ≡ stepped_by n (record { progress = p; tests = tests })
   unfolding number_of group_of
@@ -191,7 +196,7 @@ module _ (n : ℕ) (p : Progress) (tests : ℕ) (st : Stand) (is : st ≡ stand_
       let short : eqb (length p.placed) n ≡ false = ne_eqb (length p.placed) n (λ e. omega (arith, ap (λ (t : Stand). t.state.placed) is)) in
       rw (is, f, short) refl
 
-  answer_done : finished n (rows_below n) p ≡ true → Distinct (rows_below n) p.placed → n ≤ st.state.placed
+  pub answer_done : finished n (rows_below n) p ≡ true → Distinct (rows_below n) p.placed → n ≤ st.state.placed
       → record { number = done; row = 0; group = none; tests = tests; state = st.state }
       ≡ stepped_by n (record { progress = p; tests = tests })
   unfolding number_of group_of
@@ -201,7 +206,7 @@ module _ (n : ℕ) (p : Progress) (tests : ℕ) (st : Stand) (is : st ≡ stand_
       in
       rw (is, f, all) refl
 
-module _ {b : Board} {quota : ℕ} {s : State} {st : Stand} {tests k : ℕ} (S : Stands b quota s st tests k) where
+module _ {b : Board} {quota : ℕ} {s : State} {st : Stand} {tests : ℕ} (S : Stands b quota s st tests) (most : b.n ≤ 96) where
   -- where it is finished or has spent its quota, the run stands at its end
   ended : (finished b.n (rows_below b.n) S.progress ≡ true) ⊎ (quota ≤ tests)
       → stepped_by b.n (record { progress = S.progress; tests = tests }) ≡ work_of b s quota
@@ -220,22 +225,22 @@ module _ {b : Board} {quota : ℕ} {s : State} {st : Stand} {tests k : ℕ} (S :
       in
       sym (ap (stepped_by b.n) whole)
 
-  pub run_unfinished : k < b.n → quota ≤ tests
+  pub run_unfinished : {k : ℕ} → next_left b.n st.left st.state.cursor ≡ Some k → quota ≤ tests
       → record { number = unfinished; row = 0; group = none; tests = tests; state = st.state } ≡ work_of b s quota
-  run_unfinished h l =
-      answer_unfinished b.n S.progress tests st S.stand_is (next_unfinished b.n S.progress k S.row_is h) ∙ ended (inr l)
+  run_unfinished e l = answer_unfinished b.n S.progress tests st S.stand_is (stands_unfinished S most e) ∙ ended (inr l)
 
-  pub run_blocked : b.n ≤ k → st.state.placed < b.n
-      → record { number = blocked; row = 0; group = st.left; tests = tests; state = st.state } ≡ work_of b s quota
-  run_blocked h l =
-      let f = next_finished b.n S.progress k S.row_is h in
-      answer_blocked b.n S.progress tests st S.stand_is f l ∙ ended (inl f)
+  module _ (e : next_left b.n st.left st.state.cursor ≡ None) where
+    pub run_blocked : st.state.placed < b.n
+        → record { number = blocked; row = 0; group = st.left; tests = tests; state = st.state } ≡ work_of b s quota
+    run_blocked l =
+        let f = stands_finished S most e in
+        answer_blocked b.n S.progress tests st S.stand_is f l ∙ ended (inl f)
 
-  pub run_done : b.n ≤ k → b.n ≤ st.state.placed
-      → record { number = done; row = 0; group = none; tests = tests; state = st.state } ≡ work_of b s quota
-  run_done h l =
-      let f = next_finished b.n S.progress k S.row_is h in
-      answer_done b.n S.progress tests st S.stand_is f S.distinct l ∙ ended (inl f)
+    pub run_done : b.n ≤ st.state.placed
+        → record { number = done; row = 0; group = none; tests = tests; state = st.state } ≡ work_of b s quota
+    run_done l =
+        let f = stands_finished S most e in
+        answer_done b.n S.progress tests st S.stand_is f S.distinct l ∙ ended (inl f)
 
 -- ---- the answer by the check that decides it
 

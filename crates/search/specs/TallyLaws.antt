@@ -6,7 +6,6 @@ use Rattle.std.proofs.lemmas.Bool.{eqb-false}
 use Rattle.std.proofs.lemmas.List.{length-replicate, get_or-replicate}
 use Rattle.sets.specs.BoolLaws.{either, not_both}
 use Rattle.sets.specs.NumberLaws.{below_next}
-use Rattle.sets.specs.PassLaws.{Pass, next, next_from, pass_start, pass_next, pass_here, pass_end}
 use Rattle.sets.specs.Sets.{has, without, without_row}
 use Rattle.sets.specs.SetLaws.{has_without, without_in, without_other, without_at, without_swap}
 use Rattle.rows.specs.Table.{table, row_count}
@@ -14,7 +13,7 @@ use Rattle.rows.proofs.TableLaws.{row_count_most, row_count_bits}
 use Rattle.sets.specs.declared.Set.{Set}
 use Rattle.test.specs.Test.{plain_on}
 use Rattle.test.proofs.TestLaws.{plain_sum_less, plain_sum_ext}
-use Rattle.search.specs.Tally.{unknown, left_sum, Known, Tallied}
+use Rattle.search.specs.Tally.{IsLeft, unknown, left_sum, Known, Tallied}
 
 pub tally_fresh : (words : List ℕ) (left : Set) (x : ℕ) → unknown ≤ x → Tallied words left (replicate 96 x)
 tally_fresh words left x more =
@@ -43,7 +42,7 @@ tally_kept {words} {left} {sums} t k x l sum =
 
 module _ (words : List ℕ) where
   -- what row k takes from another row comes off its sum
-  sum_off : (left : Set) (k j : ℕ) → k < row_count words → has left k ≡ true → (j ≡ k → ⊥)
+  pub sum_off : (left : Set) (k j : ℕ) → k < row_count words → has left k ≡ true → (j ≡ k → ⊥)
       → left_sum words left j ≡ left_sum words (without_row left k) j + plain_on (table words) j k
   sum_off left k j l there other =
       let n = row_count words in
@@ -57,65 +56,62 @@ module _ (words : List ℕ) where
       rw (plain_sum_ext n (table words) (has (without_row (without_row left k) j)) (without H k) j same)
       (sym (plain_sum_less n (table words) H j k l in-H))
 
-  -- the rows before row p have their sums
-  abbrev pub Before : Set → List ℕ → ℕ → Type 0
-  Before rest sums p = (j : ℕ) → j < p → Known words rest sums j
-
-  before_skip : (rest : Set) (sums : List ℕ) (j : ℕ) → has rest j ≡ false → Before rest sums j → Before rest sums (suc j)
-  before_skip rest sums j off before = below_next (Known words rest sums) j before (λ h less. not_both h off)
-
-  -- A pass over the rows of `rest` stands at row i: those before it have their sums, and the entries of the others still hold what row k
+  -- A walk over the rows of `rest` has come to row p: those before it have their sums, and the entries of the others still hold what row k
   -- takes, where they are known.
-  pub record Taking (rest : Set) (k : ℕ) (sums : List ℕ) (i : ℕ) : Type 0 where
+  pub record Taking (rest : Set) (k : ℕ) (sums : List ℕ) (p : ℕ) : Type 0 where
     pub size : length sums ≡ 96
-    pub pass : Pass (has rest) (row_count words) (Before rest sums) i
-    pub ahead : (j : ℕ) → j < row_count words → i ≤ j → has rest j ≡ true → get_or sums j 0 < unknown
+    pub before : (j : ℕ) → j < p → Known words rest sums j
+    pub ahead : (j : ℕ) → j < row_count words → p ≤ j → has rest j ≡ true → get_or sums j 0 < unknown
         → get_or sums j 0 ≡ left_sum words rest j + plain_on (table words) j k
 
-  pub taking_start : {left : Set} {sums : List ℕ} (k : ℕ) → Tallied words left sums → k < row_count words → has left k ≡ true
-      → Taking (without_row left k) k sums (next (has (without_row left k)) 0)
-  taking_start {left} {sums} k t l there =
-      let rest = without_row left k in
+  pub taking_start : {left : Set} {sums : List ℕ} (k : ℕ) → Tallied words left sums → IsLeft (row_count words) left k
+      → Taking (without_row left k) k sums 0
+  taking_start {left} {sums} k t l =
       record {
         size = t.size;
-        pass = pass_start (has rest) (row_count words) (Before rest sums) (row_count_bits words) (before_skip rest sums) (λ j q. absurd (omega arith));
+        before = λ j q. absurd (omega arith);
         ahead = λ j q _ h less.
             let w = without_in (has left) k j (sym (has_without left k j (omega (arith, row_count_bits words))) ∙ h) in
-            t.known j q w.0 less ∙ sum_off left k j l there (eqb-false j k w.1);
+            t.known j q w.0 less ∙ sum_off left k j l.0 l.1 (eqb-false j k w.1);
       }
 
-  module _ {rest : Set} {k : ℕ} {sums : List ℕ} {i : ℕ} (w : Taking rest k sums i) (q : i < row_count words) where
+  pub taking_skip : (rest : Set) (k : ℕ) (sums : List ℕ) (j : ℕ) → has rest j ≡ false → Taking rest k sums j → Taking rest k sums (suc j)
+  taking_skip rest k sums j off w =
+      record {
+        size = w.size;
+        before = below_next (Known words rest sums) j w.before (λ h less. not_both h off);
+        ahead = λ i q l. w.ahead i q (omega arith);
+      }
+
+  module _ {rest : Set} {k : ℕ} {sums : List ℕ} {i : ℕ} (l : i < row_count words) (member : has rest i ≡ true) (w : Taking rest k sums i) where
     -- an entry that is known has room for what row k takes
     pub taking_fits : get_or sums i 0 < unknown → plain_on (table words) i k ≤ get_or sums i 0
-    taking_fits less = omega (arith, w.ahead i q (omega arith) (w.pass.member q) less)
+    taking_fits less = omega (arith, w.ahead i l (omega arith) member less)
 
     -- one row further: its entry is not known, or less by what row k takes
-    pub taking_unknown : unknown ≤ get_or sums i 0 → Taking rest k sums (next (has rest) (i + 1))
+    pub taking_unknown : unknown ≤ get_or sums i 0 → Taking rest k sums (suc i)
     taking_unknown more =
         record {
           size = w.size;
-          pass = pass_next (has rest) (row_count words) (Before rest sums) (row_count_bits words) (before_skip rest sums) i q
-              (below_next (Known words rest sums) i (pass_here w.pass q) (λ h less. absurd (omega arith)));
-          ahead = λ j p l. w.ahead j p (omega (arith, next_from (has rest) (i + 1)));
+          before = below_next (Known words rest sums) i w.before (λ h less. absurd (omega arith));
+          ahead = λ j q m. w.ahead j q (omega arith);
         }
 
-    pub taking_less : (x : ℕ) → x ≡ plain_on (table words) i k → get_or sums i 0 < unknown
-        → Taking rest k (set sums i (get_or sums i 0 - x)) (next (has rest) (i + 1))
+    pub taking_less : (x : ℕ) → x ≡ plain_on (table words) i k → get_or sums i 0 < unknown → Taking rest k (set sums i (get_or sums i 0 - x)) (suc i)
     taking_less x e less =
         let y = get_or sums i 0 - x in
         let here : get_or (set sums i y) i 0 ≡ y = get_or-set_same sums i y 0 (omega (arith, w.size, row_count_most words)) in
         let there : (j : ℕ) → (j ≡ i → ⊥) → get_or (set sums i y) j 0 ≡ get_or sums j 0 = λ j z. get_or-set_other sums i j y 0 z in
         record {
           size = simp length-set w.size;
-          pass = pass_next (has rest) (row_count words) (Before rest (set sums i y)) (row_count_bits words) (before_skip rest (set sums i y)) i q
-              (below_next (Known words rest (set sums i y)) i
-              (λ j p h o. let same = there j (ne_of_lt p) in same ∙ pass_here w.pass q j p h (rw same at o))
-              (λ h o. here ∙ omega (arith, w.ahead i q (omega arith) (w.pass.member q) less)));
-          ahead = λ j p l h o.
-              let behind : i < j = omega (arith, next_from (has rest) (i + 1)) in
-              let same = there j (λ z. ne_of_lt behind (sym z)) in
-              same ∙ w.ahead j p (omega arith) h (rw same at o);
+          before =
+              below_next (Known words rest (set sums i y)) i
+              (λ j q h o. let same = there j (ne_of_lt q) in same ∙ w.before j q h (rw same at o))
+              (λ h o. here ∙ omega (arith, w.ahead i l (omega arith) h less));
+          ahead = λ j q m h o.
+              let same = there j (λ u. ne_of_lt m (sym u)) in
+              same ∙ w.ahead j q (omega arith) h (rw same at o);
         }
 
-  pub taking_end : {rest : Set} {k : ℕ} {sums : List ℕ} {i : ℕ} → Taking rest k sums i → row_count words ≤ i → Tallied words rest sums
-  taking_end w h = record { size = w.size; known = pass_end w.pass h }
+  pub taking_end : {rest : Set} {k : ℕ} {sums : List ℕ} → Taking rest k sums (row_count words) → Tallied words rest sums
+  taking_end w = record { size = w.size; known = w.before }

@@ -8,7 +8,7 @@ mod state;
 mod steps;
 mod tally;
 
-pub use call::{Found, search};
+pub use call::{Found, Searched, search};
 pub use ended::{Ended, search_rows};
 pub use state::{State, fresh};
-pub use steps::{Stepped, step};
+pub use steps::{Outcome, Stepped, step};

@@ -1,63 +1,44 @@
 // One level: unplaced rows tried in table sequence.
-ghost use Rattle.std.specs.Prelude.{◌≡◌, suc, ◌-◌, min};
-ghost use Rattle.sets.specs.Sums.{count, first};
+ghost use Rattle.std.specs.Prelude.{◌≡◌, suc, min};
+ghost use Rattle.sets.specs.Sums.{count, some_below};
 ghost use Rattle.sets.specs.Sets.{has};
-ghost use Rattle.rows.specs.Table.{row_count};
-ghost use Rattle.rows.specs.Board.{board_of};
-ghost use Rattle.test.specs.Test.{passes};
-ghost use Rattle.search.specs.Answers.{passing};
-ghost use Rattle.search.specs.Tally.{Tallied};
+ghost use Rattle.rows.specs.Board.{seen};
+ghost use Rattle.search.specs.Answers.{first_passing, next_left};
 
-use crate::tally;
-use rows::Terms;
-use sets::Set;
+use crate::tally::Tally;
 
-// The first row that passed, n where none did, and the tests made.
+// The first row that passed, and the tests made.
 #[derive(Clone, Copy)]
 pub(crate) struct Scanned {
-    pub row: usize,
+    pub row: Option<usize>,
     pub tests: u64,
 }
 
-// The first of the rows from the cursor on that is left; n, or the cursor where that is more, where none is.
-pub(crate) fn next_row(left: Set, cursor: usize, n: usize) -> usize
-    ensures { result ≡ first (has left) (n - cursor) cursor }
-{
-    let mut row = cursor;
-    while row < n {
-        if left.has(row) {
-            break;
-        }
-        row += 1;
+impl Tally<'_> {
+    // The first of the rows from the cursor on that is left.
+    pub(crate) fn next_row(&self, cursor: usize) -> Option<usize>
+        ensures { result ≡ next_left (seen self.now.board).n self.now.left cursor }
+    {
+        let row = self.left.next(cursor);
+        (row < self.board.row_count()).then_some(row)
     }
-    row
-}
 
-// Tests the rows left, in table sequence, each with all others above it, up to the first that passes.
-pub(crate) fn scan(
-    words: &[u32],
-    terms: Terms,
-    left: Set,
-    n: usize,
-    sums: &mut [u32; 96],
-) -> Scanned
-    requires { (n ≡ row_count words.now) × Tallied words.now left sums.old }
-    ensures row_value { result.row ≡ first (passing (passes (board_of words.now terms)) (has left)) n 0 }
-    ensures tests_value { result.tests ≡ count (min (suc result.row) n) (has left) }
-    ensures tallied { Tallied words.now left sums.new }
-{
-    let mut row = n;
-    let mut tests: u64 = 0;
-    let mut i: usize = 0;
-    while i < n {
-        if left.has(i) {
+    // Tests the rows left, in table sequence, each with all others above it, up to the first that passes. The loop is left by
+    // break with the row that passed, as document 01 has it.
+    pub(crate) fn scan(&mut self) -> Scanned
+        ensures row_value { let b = seen self.old.board in result.row ≡ some_below (first_passing b self.old.left) b.n }
+        ensures tests_value { let b = seen self.old.board in result.tests ≡ count (min (suc (first_passing b self.old.left)) b.n) (has self.old.left) }
+        ensures same { (self.new.board ≡ self.old.board) × (self.new.left ≡ self.old.left) }
+    {
+        let mut row = None;
+        let mut tests: u64 = 0;
+        for i in self.left.rows(self.board.row_count()) {
             tests += 1;
-            if tally::passes(words, terms, left, i, sums) {
-                row = i;
+            if self.passes(i) {
+                row = Some(i);
                 break;
             }
         }
-        i += 1;
+        Scanned { row, tests }
     }
-    Scanned { row, tests }
 }

@@ -1,26 +1,22 @@
 // The search state: handed in and back by each step.
-ghost use Rattle.std.specs.Prelude.{◌≡◌, true, ◌-◌, ◌≤◌, ◌<◌, length};
+ghost use Rattle.std.specs.Prelude.{◌≡◌, ◌-◌, ◌≤◌, ◌<◌, cond, eqb, set};
+ghost use Rattle.std.specs.List.{list_all};
 ghost use Rattle.sets.specs.Sets.{set_of};
 ghost use Rattle.search.specs.Search.{rows_below, free};
-ghost use Rattle.search.specs.State.{placed_rows, rows_placed, fresh_state, placed_at, blank_from, distinct, sound};
+ghost use Rattle.search.specs.State.{fresh_state, placed_at, distinct, left_of};
 
 use sets::Set;
 
-// Entries n - placed to n - 1 of the order are the rows placed, the highest level first; all others are 255.
-#[derive(Clone, Copy)]
+// Entries n - placed to n - 1 of the order are the rows placed, the highest level first; all others are 255. This form is
+// document 01's.
+#[derive(Clone, Copy, Debug, PartialEq, Eq)]
 pub struct State {
     pub order: [u8; 96],
     pub placed: usize,
     pub cursor: usize,
 }
 
-// Whether a state is sound, and the rows that it leaves unplaced.
-#[derive(Clone, Copy)]
-pub struct Left {
-    pub sound: bool,
-    pub rows: Set,
-}
-
+// A function by this name, as document 01 speaks of a fresh state.
 pub fn fresh() -> State
     ensures { result ≡ fresh_state }
 {
@@ -31,74 +27,59 @@ pub fn fresh() -> State
     }
 }
 
-// Row k at the lowest free level of n.
-pub(crate) fn place(state: State, n: usize, k: usize) -> State
-    requires { (n ≤ 96) × (state.placed < n) × (k < n) }
-    ensures { result ≡ placed_at n state k }
+// Whether the entries are all 255. That n is at most 96 is asked where it is needed: a type for so small a count would be no plainer.
+fn is_blank(entries: &[u8]) -> bool
+    ensures { result ≡ list_all (λ x. eqb x 255) entries.now }
 {
-    let placed = state.placed;
-    let at = n - 1 - placed;
-    let mut next = state;
-    next.order[at] = k as u8;
-    next.placed = placed + 1;
-    next.cursor = 0;
-    next
-}
-
-// Whether the entries from `from` up to `to` are all 255.
-fn is_blank(order: &[u8; 96], from: usize, to: usize) -> bool
-    requires { to ≤ 96 }
-    ensures { result ≡ blank_from order.now (to - from) from }
-{
-    let mut i = from;
-    while i < to {
-        if order[i] != 255 {
-            return false;
-        }
-        i += 1;
-    }
-    true
+    entries.iter().all(|&entry| entry == 255)
 }
 
 // Takes the rows placed, the lowest level first, out of the rows below n: each must be one that is still there.
-fn unplaced(order: &[u8], n: usize, placed: usize) -> Left
-    requires { (n ≤ 96) × (placed ≤ n) × (length order.now ≡ 96) }
-    ensures sound_value { result.sound ≡ distinct n (rows_placed n order.now placed) }
-    ensures rows_value { result.sound ≡ true → result.rows ≡ set_of (free (rows_below n) (rows_placed n order.now placed)) }
+fn unplaced(n: usize, placed: &[u8]) -> Option<Set>
+    requires { n ≤ 96 }
+    ensures { result ≡ cond (distinct n placed.now) (Some (set_of (free (rows_below n) placed.now))) None }
 {
     let mut rows = Set::below(n);
-    let mut i: usize = 0;
-    while i < placed {
-        let row = order[n - 1 - i] as usize;
-        if !rows.has(row) {
-            return Left { sound: false, rows };
+    for &row in placed.iter().rev() {
+        if !rows.has(row as usize) {
+            return None;
         }
-        rows = rows.without(row);
-        i += 1;
+        rows = rows.without(row as usize);
     }
-    Left { sound: true, rows }
+    Some(rows)
 }
 
-// Whether the state is sound against n, and the rows that it leaves unplaced.
-pub(crate) fn left_of(state: State, n: usize) -> Left
-    requires { n ≤ 96 }
-    ensures sound_value { result.sound ≡ sound n state }
-    ensures rows_value { result.sound ≡ true → result.rows ≡ set_of (free (rows_below n) (placed_rows n state)) }
+// Row k at the lowest free level of n, where so many are placed.
+pub(crate) fn put(order: &mut [u8; 96], n: usize, placed: usize, k: usize)
+    requires { (n ≤ 96) × (placed < n) × (k < n) }
+    ensures { order.new ≡ set order.old (n - 1 - placed) k }
 {
-    let order = state.order;
-    let placed = state.placed;
-    let none = Set { low: 0, high: 0 };
-    if n < placed || n < state.cursor {
-        return Left {
-            sound: false,
-            rows: none,
-        };
+    order[n - 1 - placed] = k as u8;
+}
+
+impl State {
+    // Row k at the lowest free level of n.
+    pub(crate) fn place(&mut self, n: usize, k: usize)
+        requires { (n ≤ 96) × (self.old.placed < n) × (k < n) }
+        ensures { self.new ≡ placed_at n self.old k }
+    {
+        put(&mut self.order, n, self.placed, k);
+        self.placed += 1;
+        self.cursor = 0;
     }
-    if !is_blank(&order, 0, n - placed) || !is_blank(&order, n, 96) {
-        return Left {
-            sound: false,
-            rows: none,
-        };
+
+    // The rows that the state leaves unplaced of n: none where the state is not sound against n.
+    pub(crate) fn left(&self, n: usize) -> Option<Set>
+        requires { n ≤ 96 }
+        ensures { result ≡ left_of n self.now }
+    {
+        if n < self.placed || n < self.cursor {
+            return None;
+        }
+        let from = n - self.placed;
+        if !is_blank(&self.order[..from]) || !is_blank(&self.order[n..]) {
+            return None;
+        }
+        unplaced(n, &self.order[from..n])
     }
-    unplaced(&order[..], n, placed)
 }

@@ -1,136 +1,91 @@
-// The search in quota steps.
-ghost use Rattle.std.specs.Prelude.{◌≡◌, true, ◌<◌};
-ghost use Rattle.sets.specs.Sets.{has, none, set_of};
-ghost use Rattle.rows.specs.Table.{row_count};
-ghost use Rattle.rows.specs.Board.{board_of, limited};
-ghost use Rattle.search.specs.Search.{rows_below, free};
-ghost use Rattle.search.specs.State.{placed_rows, sound};
+// The search in quota steps. The state is handed in and back by value, also where a step is refused: this form is document 01's.
+ghost use Rattle.std.specs.Prelude.{◌≡◌, ◌<◌};
+ghost use Rattle.rows.specs.Board.{seen, board_of, limited};
+ghost use Rattle.search.specs.State.{left_of};
+ghost use Rattle.search.specs.Tally.{IsLeft};
+ghost use Rattle.search.specs.Told.{told_step, StepChecked};
 ghost use Rattle.search.specs.Answers.{stepped_of, StepDemanded, work_of, probed_of};
-ghost use Rattle.search.specs.Tally.{Tallied};
 
-use crate::scan::next_row;
-use crate::state::{State, left_of, place};
-use crate::tally;
-use rows::{Terms, numbers};
+use crate::state::State;
+use crate::tally::{LATER, Tally};
+use rows::{Board, Refusal};
 use sets::Set;
 
-// A step's answer: the number, with 3 the lowest row at fault, with 4 the blocked group, the tests made in this call, and the new state.
-#[derive(Clone, Copy)]
+// How a step ends: with every row placed, with the blocked group, or with its quota spent.
+#[derive(Clone, Copy, Debug, PartialEq, Eq)]
+pub enum Outcome {
+    Order,
+    Blocked(Set),
+    Unfinished,
+}
+
+// A step's answer, the tests made in this call, and the new state: the one that was given where the step was refused.
+#[derive(Clone, Copy, Debug, PartialEq, Eq)]
 pub struct Stepped {
-    pub number: u32,
-    pub row: usize,
-    pub group: Set,
+    pub answer: Result<Outcome, Refusal>,
     pub tests: u64,
     pub state: State,
 }
 
-// A state and the rows that it leaves unplaced.
-#[derive(Clone, Copy)]
-struct Stand {
-    state: State,
-    left: Set,
-}
-
 // One test, of row k with all others that are left above it.
-fn probe(
-    words: &[u32],
-    terms: Terms,
-    n: usize,
-    stand: Stand,
-    k: usize,
-    sums: &mut [u32; 96],
-) -> Stand
-    requires n_value { (n ≡ row_count words.now) × (k < n) × (stand.state.placed < n) }
-    requires k_value { (has stand.left k ≡ true) × Tallied words.now stand.left sums.old }
-    ensures value { result ≡ probed_of (board_of words.now terms) stand.state stand.left k }
-    ensures tallied { Tallied words.now result.left sums.new }
+fn probe(tally: &mut Tally<'_>, state: &mut State, k: usize)
+    requires { IsLeft (seen tally.old.board).n tally.old.left k × (state.old.placed < (seen tally.old.board).n) }
+    ensures value { record { state = state.new; left = tally.new.left } ≡ probed_of (seen tally.old.board) state.old tally.old.left k }
+    ensures same { tally.new.board ≡ tally.old.board }
 {
-    let state = stand.state;
-    let left = stand.left;
-    if tally::passes(words, terms, left, k, sums) {
-        let rest = tally::take(words, n, left, k, sums);
-        let next = place(state, n, k);
-        return Stand {
-            state: next,
-            left: rest,
-        };
+    if tally.passes(k) {
+        state.place(tally.board.row_count(), k);
+        tally.take(k);
+    } else {
+        state.cursor = k + 1;
     }
-    let mut next = state;
-    next.cursor = k + 1;
-    Stand { state: next, left }
 }
 
 // Tests until the search is finished or the quota is spent. In a short step most rows are tested once, and no sum is made.
-fn run(words: &[u32], terms: Terms, n: usize, state: State, left: Set, quota: u64) -> Stepped
-    requires n_value { (n ≡ row_count words.now) × (sound n state ≡ true) }
-    requires left_value { left ≡ set_of (free (rows_below n) (placed_rows n state)) }
-    ensures { result ≡ work_of (board_of words.now terms) state quota }
+fn run(board: Board<'_>, left: Set, mut state: State, quota: u64) -> Stepped
+    requires { left_of (seen board).n state ≡ Some left }
+    ensures { told_step result ≡ work_of (seen board.entry) state quota }
 {
-    let mut sums = [tally::LATER; 96];
-    let mut stand = Stand { state, left };
+    let mut tally = Tally::new(board, left, LATER);
     let mut tests: u64 = 0;
-    let mut k = next_row(left, state.cursor, n);
-    while k < n && tests < quota {
-        stand = probe(words, terms, n, stand, k, &mut sums);
+    for _ in 0..quota {
+        let Some(k) = tally.next_row(state.cursor) else {
+            break
+        };
+        probe(&mut tally, &mut state, k);
         tests += 1;
-        let now = stand.state;
-        let rest = stand.left;
-        k = next_row(rest, now.cursor, n);
     }
-    let end = stand.state;
-    let group = stand.left;
-    if k < n {
-        return Stepped {
-            number: numbers::UNFINISHED,
-            row: 0,
-            group: Set { low: 0, high: 0 },
-            tests,
-            state: end,
-        };
-    }
-    if end.placed < n {
-        return Stepped {
-            number: numbers::BLOCKED,
-            row: 0,
-            group,
-            tests,
-            state: end,
-        };
-    }
+    let outcome = match tally.next_row(state.cursor) {
+        Some(_) => Outcome::Unfinished,
+        None if state.placed < board.row_count() => Outcome::Blocked(tally.left),
+        None => Outcome::Order,
+    };
     Stepped {
-        number: numbers::DONE,
-        row: 0,
-        group: Set { low: 0, high: 0 },
+        answer: Ok(outcome),
         tests,
-        state: end,
-    }
-}
-
-fn refused(number: u32, row: usize, state: State) -> Stepped
-    ensures { result ≡ record { number = number; row = row; group = none; tests = 0; state = state } }
-{
-    Stepped {
-        number,
-        row,
-        group: Set { low: 0, high: 0 },
-        tests: 0,
         state,
     }
 }
 
+// The checks that a step makes first: 1, 2, 3, 7. The rows that the state leaves unplaced.
+fn checked(words: &[u32], m: u32, state: &State) -> Result<Set, Refusal>
+    ensures { StepChecked words.now (limited m) state.now result }
+{
+    rows::check_table(words, m)?;
+    state.left(rows::row_count(words)).ok_or(Refusal::Unsound)
+}
+
 // One step: 1, 2, 3, 7, then 0, 4 or 15 with the new state and the tests made in this call.
 pub fn step(words: &[u32], m: u32, state: State, quota: u64) -> Stepped
-    ensures value { result ≡ stepped_of words.now (limited m) state quota }
-    ensures step_demanded { StepDemanded (board_of words.now (limited m)) state quota result }
+    ensures value { told_step result ≡ stepped_of words.now (limited m) state quota }
+    ensures step_demanded { StepDemanded (board_of words.now (limited m)) state quota (told_step result) }
 {
-    let checked = rows::check_table(words, m);
-    if checked.number != 0 {
-        return refused(checked.number, checked.row, state);
+    match checked(words, m, &state) {
+        Ok(left) => run(Board::limited(words, m), left, state, quota),
+        Err(why) => Stepped {
+            answer: Err(why),
+            tests: 0,
+            state,
+        },
     }
-    let n = rows::row_count(words);
-    let left = left_of(state, n);
-    if !left.sound {
-        return refused(numbers::UNSOUND, 0, state);
-    }
-    run(words, rows::limited(m), n, state, left.rows, quota)
 }

@@ -1,57 +1,93 @@
 // What the search keeps between its tests, so that a row that is tested again costs little: for each row left the sum of
 // the plain interferences of the other rows left on it, once known.
-ghost use Rattle.std.specs.Prelude.{◌≡◌, true, ◌<◌};
+ghost use Rattle.std.specs.Prelude.{◌≡◌, ◌≤◌};
 ghost use Rattle.sets.specs.Sets.{has, without_row};
 ghost use Rattle.rows.specs.Table.{row_count};
-ghost use Rattle.rows.specs.Board.{board_of};
+ghost use Rattle.rows.specs.Board.{seen};
 ghost use Rattle.test.specs.Test.{passes as test_passes};
-ghost use Rattle.search.specs.Tally.{Tallied};
+ghost use Rattle.search.specs.Tally.{IsLeft, unknown, sum_in, Tallied};
 
-use rows::Terms;
+use rows::Board;
 use sets::Set;
 
-// Stands for a sum that is not known, and that the next test of the row makes.
+// What an entry is where its sum is not known: one that the next test of the row makes, and one that is made by the test after
+// that. Entries are words and no enum, which would take 384 bytes of stack more than the host entry may have.
 pub(crate) const UNKNOWN: u32 = 0xffff_fffe;
 
-// Stands for one that the next test does not make, but the one after it.
 pub(crate) const LATER: u32 = 0xffff_ffff;
 
-// Whether row k passes with the other rows left above it. A test that makes no sum ends where the limit is reached.
-#[tactic(auto, using(rows::proofs::TableLaws::row_count_most))]
-pub(crate) fn passes(words: &[u32], terms: Terms, left: Set, k: usize, sums: &mut [u32; 96]) -> bool
-    requires { (k < row_count words.now) × (has left k ≡ true) × Tallied words.now left sums.old }
-    ensures value { result ≡ test_passes (board_of words.now terms) (has (without_row left k)) k }
-    ensures tallied { Tallied words.now left sums.new }
+// The sum that an entry is, where it is known.
+fn sum_in(entry: u32) -> Option<u32>
+    ensures { result ≡ sum_in entry }
 {
-    let above = left.without(k);
-    let mut sum = sums[k];
-    if sum == LATER {
-        sums[k] = UNKNOWN;
-        return test::passes(words, terms, above, k);
-    }
-    if UNKNOWN <= sum {
-        sum = test::plain_sum(words, above, k);
-        sums[k] = sum;
-    }
-    test::passes_with(words, terms, above, k, sum)
+    (entry < UNKNOWN).then_some(entry)
 }
 
-// The rows left without row k, which is placed. What it takes from each of them comes off their sums.
+// A board, the rows left, and what is kept of each: the sums that are known are those of the rows left.
+#[derive(Drop)]
+pub(crate) struct Tally<'a> {
+    pub board: Board<'a>,
+    pub left: Set,
+    sums: [u32; 96],
+    ghost tallied: { Tallied board.words.now left sums },
+}
+
+// The rows left without row k, which is placed. What it takes from each of them comes off their sums. Until the walk is over
+// the sums are those of no set, so that it is no method.
 #[tactic(auto, using(rows::proofs::TableLaws::row_count_most))]
-pub(crate) fn take(words: &[u32], n: usize, left: Set, k: usize, sums: &mut [u32; 96]) -> Set
-    requires { (n ≡ row_count words.now) × (k < n) × (has left k ≡ true) × Tallied words.now left sums.old }
+fn take_off(words: &[u32], left: Set, k: usize, sums: &mut [u32; 96]) -> Set
+    requires { IsLeft (row_count words.now) left k × Tallied words.now left sums.old }
     ensures value { result ≡ without_row left k }
     ensures tallied { Tallied words.now (without_row left k) sums.new }
 {
     let rest = left.without(k);
-    let mut i = rest.next(0);
-    while i < n {
-        let sum = sums[i];
-        let is_known = sum < UNKNOWN;
-        if is_known {
+    for i in rest.rows(rows::row_count(words)) {
+        if let Some(sum) = sum_in(sums[i]) {
             sums[i] = sum - test::plain(words, i, k);
         }
-        i = rest.next(i + 1);
     }
     rest
+}
+
+impl<'a> Tally<'a> {
+    // No sum is known yet: each entry says when it is made.
+    pub(crate) fn new(board: Board<'a>, left: Set, entry: u32) -> Tally<'a>
+        requires { unknown ≤ entry }
+        ensures { (result.board ≡ board.entry) × (result.left ≡ left) }
+    {
+        Tally {
+            board,
+            left,
+            sums: [entry; 96],
+        }
+    }
+
+    // Whether row k passes with the other rows left above it. A test that makes no sum ends where the limit is reached.
+    #[tactic(auto, using(rows::proofs::TableLaws::row_count_most))]
+    pub(crate) fn passes(&mut self, k: usize) -> bool
+        requires { IsLeft (seen self.old.board).n self.old.left k }
+        ensures value { result ≡ test_passes (seen self.old.board) (has (without_row self.old.left k)) k }
+        ensures same { (self.new.board ≡ self.old.board) × (self.new.left ≡ self.old.left) }
+    {
+        let above = self.left.without(k);
+        if self.sums[k] == LATER {
+            self.sums[k] = UNKNOWN;
+            return test::passes(self.board, above, k);
+        }
+        // A `match`, since a closure that sums would capture what the next lines write.
+        let sum = match sum_in(self.sums[k]) {
+            Some(sum) => sum,
+            None => test::plain_sum(self.board.words, above, k),
+        };
+        self.sums[k] = sum;
+        test::passes_with(self.board, above, k, sum)
+    }
+
+    // Row k is placed. What it takes from each of the others comes off their sums.
+    pub(crate) fn take(&mut self, k: usize)
+        requires { IsLeft (seen self.old.board).n self.old.left k }
+        ensures { (self.new.board ≡ self.old.board) × (self.new.left ≡ without_row self.old.left k) }
+    {
+        self.left = take_off(self.board.words, self.left, k, &mut self.sums);
+    }
 }

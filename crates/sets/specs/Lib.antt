@@ -1,7 +1,10 @@
 pub mod Sums
 pub mod Sets
+pub mod Rows
 pub mod BoolLaws
 pub mod NumberLaws
 pub mod SumLaws
+pub mod RangeLaws
+pub mod RowsLaws
 pub mod PassLaws
 pub mod SetLaws

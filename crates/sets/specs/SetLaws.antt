@@ -239,10 +239,11 @@ has_above s i f h = bit_above 128 (word s) i (word_lt s f) h
 pub has_lt : (s : Set) (i : ℕ) → FitsWords s → has s i ≡ true → i < 128
 has_lt s i f h = ⊎_elim (ltb-true i 128) (λ e. not_both h (has_above s i f (ltb-false i 128 e))) (either (ltb i 128))
 
--- the number 2 ^ k as the words hold it: shifted in the low word, and as a part of the high word
-pub shl_one : (k : ℕ) → k < 64 → (1 * 2 ^ k) % 2 ^ 64 ≡ 2 ^ k
-shl_one k h = shl_exact 1 k 64 (le_refl 2) (omega arith) ∙ one-mul (2 ^ k)
+-- the number 2 ^ k as a word of n bits holds it, shifted
+pub shl_one : (n k : ℕ) → k < n → 1 * 2 ^ k % 2 ^ n ≡ 2 ^ k
+shl_one n k h = shl_exact 1 k n (le_refl 2) (omega arith) ∙ one-mul (2 ^ k)
 
+-- the number 2 ^ k as a part of the high word
 pub pow_high : (k : ℕ) → 64 ≤ k → 2 ^ (k - 64) * 2 ^ 64 ≡ 2 ^ k
 pow_high k h = let e : k - 64 + 64 ≡ k = omega arith in rw e at (sym (pow-add 2 (k - 64) 64))
 

@@ -1,8 +1,8 @@
 -- Laws of sums, of counts, and of the first number that a test takes, in this order.
 -- Assumes nothing.
-use Rattle.std.specs.Prelude.{ℕ, zero, suc, ◌+◌, ◌*◌, ◌-◌, ◌≤◌, ◌<◌, ◌≡◌, refl, ◌↔◌, Bool, true, false, eqb, ltb}
-use Rattle.std.proofs.Common.{zero-le, sym, ap, ◌∙◌, ⊎_elim, arith, add-one, le_refl, le_antisymm, le_of_eq, add-le-add, ne_of_lt, eq-or-lt_of_le, le_of_suc-le-suc, zero-mul, eq-eqb, ne_eqb, ltb-true, ltb-false}
-use Rattle.sets.specs.Sums.{on, sum, count, first}
+use Rattle.std.specs.Prelude.{ℕ, zero, suc, ◌+◌, ◌*◌, ◌-◌, ◌≤◌, ◌<◌, ◌≡◌, refl, ◌↔◌, Bool, true, false, Option, Some, None, MatchOption, eqb, ltb}
+use Rattle.std.proofs.Common.{zero-le, sym, ap, ◌∙◌, ⊎_elim, arith, add-one, le_refl, le_antisymm, le_of_eq, add-le-add, ne_of_lt, eq-or-lt_of_le, le_of_suc-le-suc, zero-mul, eq-eqb, ne_eqb, ltb-true, ltb-false, lt-ltb, le-ltb}
+use Rattle.sets.specs.Sums.{on, sum, count, first, some_below}
 use Rattle.sets.specs.BoolLaws.{either, not_both}
 
 -- ---- sums
@@ -168,3 +168,41 @@ module _ (p : ℕ → Bool) (n i : ℕ) (h : i < n) where
 
 pub first_end : (p : ℕ → Bool) (n i : ℕ) → n ≤ i → first p (n - i) i ≡ i
 first_end p n i h = let e : n - i ≡ 0 = omega arith in rw e refl
+
+-- ---- the first, as an `Option`: what a search of the numbers below n answers
+
+pub some_below_in : (i n : ℕ) → i < n → some_below i n ≡ Some i
+some_below_in i n h = rw (lt-ltb i n h) refl
+
+pub some_below_out : (i n : ℕ) → n ≤ i → some_below i n ≡ None
+some_below_out i n h = rw (le-ltb i n h) refl
+
+pub some_below_some : (i n : ℕ) {j : ℕ} → some_below i n ≡ Some j → (j ≡ i) × (i < n)
+some_below_some i n {j} e =
+    ⊎_elim (λ (t : ltb i n ≡ true). let s : Some i ≡ Some j = rw t at e in ((cc), ltb-true i n t))
+    (λ (f : ltb i n ≡ false). let s : None ≡ Some j = rw f at e in cc)
+    (either (ltb i n))
+
+pub some_below_none : (i n : ℕ) → some_below i n ≡ None → n ≤ i
+some_below_none i n e =
+    ⊎_elim (λ (t : ltb i n ≡ true). let s : Some i ≡ None = rw t at e in cc) (ltb-false i n) (either (ltb i n))
+
+-- no other answer fits
+pub some_below_only : (p : ℕ → Bool) (a n : ℕ) (r : Option ℕ)
+    → MatchOption r ((k : ℕ) → a ≤ k → k < n → p k ≡ false) (λ i. (a ≤ i) × (i < n) × (p i ≡ true) × ((k : ℕ) → a ≤ k → k < i → p k ≡ false))
+    → r ≡ some_below (first p (n - a) a) n
+some_below_only p a n None h =
+    let f = first_is p (n - a) a in
+    sym (some_below_out _ n (⊎_elim
+    (λ (e : ltb (first p (n - a) a) n ≡ true). let l = ltb-true _ n e in not_both (f.found (omega arith)) (h _ f.from l))
+    (ltb-false _ n)
+    (either (ltb (first p (n - a) a) n))))
+some_below_only p a n (Some i) h =
+    let e : i ≡ first p (n - a) a = first_only p (n - a) a i (record { from = h.0; to = omega (arith, h.1); before = h.3; found = λ l. h.2 }) in
+    rw (sym e) (sym (some_below_in i n h.1))
+
+-- from 0 on
+pub found_below : (p : ℕ → Bool) (n : ℕ) (r : Option ℕ)
+    → MatchOption r ((k : ℕ) → 0 ≤ k → k < n → p k ≡ false) (λ i. (0 ≤ i) × (i < n) × (p i ≡ true) × ((k : ℕ) → 0 ≤ k → k < i → p k ≡ false))
+    → r ≡ some_below (first p n 0) n
+found_below p n r h = let all : n - 0 ≡ n = omega arith in rw all at (some_below_only p 0 n r h)

@@ -1,6 +1,6 @@
 -- Sums and counts over the numbers below n, the first number that a test takes, and how often a number stands in a list.
 -- Assumes nothing.
-use Rattle.std.specs.Prelude.{ℕ, zero, suc, ◌+◌, Bool, true, false, cond, List, [], ◌∷◌, eqb}
+use Rattle.std.specs.Prelude.{ℕ, zero, suc, ◌+◌, Bool, true, false, cond, Option, Some, None, List, [], ◌∷◌, eqb, ltb}
 
 -- x where the test holds, else 0
 abbrev pub on : Bool → ℕ → ℕ
@@ -20,6 +20,10 @@ count n p = sum n (λ i. on (p i) 1)
 abbrev pub first : (ℕ → Bool) → ℕ → ℕ → ℕ
 first p zero i = i
 first p (suc d) i = let rest = first p d (suc i) in cond (p i) i rest
+
+-- the number i where it is below n, none where it is not
+abbrev pub some_below : ℕ → ℕ → Option ℕ
+some_below i n = cond (ltb i n) (Some i) None
 
 -- how often i stands in the list
 abbrev pub times : ℕ → List ℕ → ℕ

@@ -1,2 +1,4 @@
 pub mod TestLaws
 pub mod PartsLaws
+pub mod ToldLaws
+pub mod EarlierForms

@@ -1,4 +1,5 @@
 pub mod Test
+pub mod Told
 pub mod Parts
 pub mod TopLaws
 pub mod JudgedLaws

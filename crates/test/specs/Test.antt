@@ -11,7 +11,6 @@ use Rattle.rows.specs.declared.table.Row.{Row}
 use Rattle.sets.specs.declared.Set.{Set}
 use Rattle.rows.specs.declared.terms.Terms.{Terms}
 use Rattle.workload.specs.Workload.{plain, extra}
-use Rattle.test.specs.declared.Judged.{Judged}
 
 -- the sum of the c largest of d 0 .. d (n - 1), of all of them if n is smaller: the largest sum that at most c of them have
 abbrev pub top : ℕ → ℕ → (ℕ → ℕ) → ℕ
@@ -53,6 +52,13 @@ passes_with b H k p = leb ((b.t k).c + (p + top b.c b.n (extra_from b.t H (b.t k
 -- row k is one of n rows, the set above it holds none but those, and not k itself
 unfoldable pub well_formed : ℕ → ℕ → Set → Bool
 well_formed n k above = ltb k n && within above n && not (has above k)
+
+-- what the single test answers: its number, with 3 the lowest row at fault, and whether the row passes and its used
+pub record Judged : Type 0 where
+  pub number : ℕ
+  pub row : ℕ
+  pub passes : Bool
+  pub used : ℕ
 
 -- what a refused test answers, and one that is made
 abbrev pub refusal : ℕ → ℕ → Judged

@@ -1,17 +1,17 @@
-// The parts of a case. Each says whether the case is whole so far; where it is not, nothing more is read. An error is the
-// reader's and never that the input ends; part of the input may have been read then.
-ghost use Rattle.std.specs.Prelude.{◌≤◌, ◌≢◌, IfOk, IfErr};
-ghost use Rattle.std.specs.IoError.{error_kind};
-ghost use Rattle.std.specs.declared.io.ErrorKind.TheVariants.{UnexpectedEof};
-ghost use Rattle.io.specs.Counts.{IsPrefixLen};
+// The parts of a case. Where one cannot be read, nothing more is read; part of the input may have been read then.
+ghost use Rattle.std.specs.Prelude.{◌≡◌, ℕ, ◌*◌, ◌/◌, ◌<◌, ◌≤◌, [], ◌∷◌, length, take, drop, slice_index, IfOk, OnOk};
+ghost use Rattle.arrayvec.specs.ArrayVec.{array_vec_len};
+ghost use Rattle.wire.specs.Cases.{Reads, count_bytes, byte_list_bytes, word_list_bytes, most_words, case_bytes, IsOfShape};
+ghost use Rattle.wire.specs.Answers.{words_bytes};
 
-use crate::numbers::Block;
-use crate::{Bytes, Words, numbers};
+use crate::numbers::{Numbers, ROOM};
+use crate::{Bytes, WORDS, Words};
 use std::io;
 use std::io::{ErrorKind, Read};
 
 // Which parts a case has, in this order: a table; so many bytes of numbers; a list of at most so many bytes, none with 0;
-// so many bytes of numbers after it; output words.
+// so many bytes of numbers after it; output words. The table and the output are there or not, and nothing
+// more; a list of at most 0 bytes is none.
 #[derive(Clone, Copy)]
 pub struct Shape {
     pub table: bool,
@@ -21,146 +21,123 @@ pub struct Shape {
     pub room: bool,
 }
 
-#[derive(Clone, Copy)]
-pub struct WordList {
-    pub n: usize,
-    pub words: Words,
-    pub whole: bool,
-}
-
-#[derive(Clone, Copy)]
-pub struct ByteList {
-    pub n: usize,
-    pub bytes: Bytes,
-    pub whole: bool,
-}
-
 // The numbers after the list stand behind those before it.
-#[derive(Clone, Copy)]
+#[derive(Drop)]
 pub struct Case {
-    pub table: WordList,
-    pub numbers: Block,
-    pub list: ByteList,
-    pub room: WordList,
-    pub whole: bool,
+    pub table: Words,
+    pub numbers: Numbers,
+    pub list: Bytes,
+    pub room: Words,
 }
 
-#[derive(Clone, Copy)]
-struct Listed {
-    n: usize,
-    whole: bool,
+// Why there is no further case: the input ends, before it or within it, or a part of it is too long; or an error, which the
+// functions below answer as the reader gave it, and never for the input's end.
+#[derive(Clone, Copy, Debug)]
+pub enum Stop {
+    End,
+    Error(io::Error),
 }
 
-// Reads until the bytes are full. Not whole where the input ends before.
-fn read_whole<R: Read>(input: &mut R, bytes: &mut [u8]) -> io::Result<bool>
-    ensures { IfErr result (λ e. error_kind e ≢ UnexpectedEof) }
+// Reads so many bytes to the front of those lent; where they have no room, as many as there is room for, so that a case that is
+// too long is read as far as it always was.
+fn fill<R: Read>(input: &mut R, bytes: &mut [u8], size: usize) -> Result<(), Stop>
+    ensures read { Reads R.remaining input.old input.new result (λ _. take size bytes.new) }
+    ensures room { OnOk result (size ≤ length bytes.new) }
+    ensures bytes { (k : ℕ) → slice_index bytes.new k < 256 }
+    ensures behind { drop size bytes.new ≡ drop size bytes.old }
 {
-    match input.read_exact(bytes) {
-        Ok(()) => Ok(true),
-        Err(e) if e.kind() == ErrorKind::UnexpectedEof => Ok(false),
-        Err(e) => Err(e),
+    let n = size.min(bytes.len());
+    match input.read_exact(&mut bytes[..n]) {
+        Ok(()) if n == size => Ok(()),
+        Ok(()) => Err(Stop::End),
+        Err(e) if e.kind() == ErrorKind::UnexpectedEof => Err(Stop::End),
+        Err(e) => Err(Stop::Error(e)),
     }
 }
 
-// Reads so many bytes. Not whole where the input ends before them, or where there is no room for them.
-fn fill<R: Read>(input: &mut R, whole: bool, bytes: &mut [u8], size: usize) -> io::Result<bool>
-    ensures { IfErr result (λ e. error_kind e ≢ UnexpectedEof) }
+// How many elements the next list has, at most `most`; none where `most` is 0, and the case has no such list.
+#[tactic(auto, using(std::proofs::lemmas::Nat::be_bytes_2))]
+fn count<R: Read>(input: &mut R, most: usize) -> Result<usize, Stop>
+    ensures read { Reads R.remaining input.old input.new result (count_bytes most) }
+    ensures most { IfOk result (λ n. n ≤ most) }
 {
-    if !whole {
-        return Ok(false);
-    }
-    let n = crate::within(size, &*bytes);
-    let is_read = read_whole(input, &mut bytes[..n])?;
-    Ok(is_read && n == size)
-}
-
-// How many elements the next list has; none where the case has no such list. Not whole where they are more than `most`.
-fn count<R: Read>(input: &mut R, whole: bool, is_there: bool, most: usize) -> io::Result<Listed>
-    ensures ok { IfOk result (λ listed. listed.n ≤ most) }
-    ensures err { IfErr result (λ e. error_kind e ≢ UnexpectedEof) }
-{
-    if !is_there {
-        return Ok(Listed { n: 0, whole });
+    if most == 0 {
+        return Ok(0);
     }
     let mut bytes = [0u8; 2];
-    let is_read = fill(input, whole, &mut bytes, 2)?;
-    let n = numbers::pair(bytes[0], bytes[1]) as usize;
+    fill(input, &mut bytes, 2)?;
+    let n = u16::from_be_bytes(bytes) as usize;
     if most < n {
-        return Ok(Listed { n: 0, whole: false });
+        return Err(Stop::End);
     }
-    Ok(Listed { n, whole: is_read })
+    Ok(n)
 }
 
-// The first `n` words of the bytes.
-fn words_of(bytes: &Block, n: usize) -> Words
-    requires { n ≤ 512 }
-    ensures { IsPrefixLen n result }
+// So many bytes.
+fn bytes<R: Read>(input: &mut R, n: usize) -> Result<Bytes, Stop>
+    ensures read { Reads R.remaining input.old input.new result (λ bytes. bytes.items) }
+    ensures size { IfOk result (λ bytes. array_vec_len bytes ≡ n) }
 {
-    let mut words = [0u32; 512];
-    for i in 0..n {
-        words[i] = numbers::word(bytes, 4 * i);
+    let mut bytes = [0u8; 4200];
+    fill(input, &mut bytes, n)?;
+    Ok(Bytes::try_from(&bytes[..n]).unwrap())
+}
+
+fn byte_list<R: Read>(input: &mut R, most: usize) -> Result<Bytes, Stop>
+    ensures read { Reads R.remaining input.old input.new result (byte_list_bytes most) }
+    ensures most { IfOk result (λ list. array_vec_len list ≤ most) }
+{
+    let n = count(input, most)?;
+    bytes(input, n)
+}
+
+// The words whose bytes these are. `collect` would ask for an allocator.
+#[tactic(auto, using(crate::proofs::Quads::words_more))]
+fn words(bytes: &[u8]) -> Words
+    requires { length bytes.now ≤ 2048 }
+    ensures len { array_vec_len result ≡ length bytes.now / 4 }
+    ensures words { words_bytes result.items ≡ take (4 * (length bytes.now / 4)) bytes.now }
+{
+    let mut words = Words::new();
+    let (quads, _) = bytes.as_chunks::<4>();
+    for quad in quads {
+        words.push(u32::from_be_bytes(*quad));
     }
     words
 }
 
-fn word_list<R: Read>(input: &mut R, whole: bool, is_there: bool) -> io::Result<WordList>
-    ensures ok { IfOk result (λ list. IsPrefixLen list.n list.words) }
-    ensures err { IfErr result (λ e. error_kind e ≢ UnexpectedEof) }
+fn word_list<R: Read>(input: &mut R, is_there: bool) -> Result<Words, Stop>
+    ensures read { Reads R.remaining input.old input.new result (word_list_bytes is_there) }
+    ensures most { IfOk result (λ list. array_vec_len list ≤ most_words is_there) }
 {
-    let listed = count(input, whole, is_there, 512)?;
-    let n = listed.n;
-    let mut bytes = [0u8; 2048];
-    let is_read = fill(input, listed.whole, &mut bytes, 4 * n)?;
-    let words = words_of(&bytes, n);
-    Ok(WordList {
-        n,
-        words,
-        whole: is_read,
-    })
+    let n = count(input, if is_there { WORDS } else { 0 })?;
+    let bytes = bytes(input, 4 * n)?;
+    Ok(words(&bytes))
 }
 
-fn byte_list<R: Read>(input: &mut R, whole: bool, most: usize) -> io::Result<ByteList>
-    ensures ok { IfOk result (λ list. IsPrefixLen list.n list.bytes) }
-    ensures err { IfErr result (λ e. error_kind e ≢ UnexpectedEof) }
+// The first byte of a case, its kind.
+pub fn kind<R: Read>(input: &mut R) -> Result<u8, Stop>
+    ensures { Reads R.remaining input.old input.new result (λ kind. kind ∷ []) }
 {
-    let listed = count(input, whole, 0 < most, most)?;
-    let mut bytes = [0u8; 4200];
-    let is_read = fill(input, listed.whole, &mut bytes, listed.n)?;
-    let n = crate::within(listed.n, &bytes);
-    Ok(ByteList {
-        n,
-        bytes,
-        whole: is_read,
-    })
+    let mut kind = [0u8; 1];
+    fill(input, &mut kind, 1)?;
+    Ok(kind[0])
 }
 
-// The first byte of a case, its kind; 0 where the input ends.
-pub fn kind<R: Read>(input: &mut R) -> io::Result<u8>
-    ensures { IfErr result (λ e. error_kind e ≢ UnexpectedEof) }
+pub fn read<R: Read>(input: &mut R, shape: Shape) -> Result<Case, Stop>
+    ensures read { Reads R.remaining input.old input.new result (case_bytes shape) }
+    ensures shape { IfOk result (IsOfShape shape) }
 {
-    let mut bytes = [0u8; 1];
-    read_whole(input, &mut bytes)?;
-    Ok(bytes[0])
-}
-
-pub fn read<R: Read>(input: &mut R, shape: Shape) -> io::Result<Case>
-    ensures prefix_len { IfOk result (λ case. IsPrefixLen case.table.n case.table.words) }
-    ensures prefix_len_2 { IfOk result (λ case. IsPrefixLen case.list.n case.list.bytes) }
-    ensures prefix_len_3 { IfOk result (λ case. IsPrefixLen case.room.n case.room.words) }
-    ensures err { IfErr result (λ e. error_kind e ≢ UnexpectedEof) }
-{
-    let table = word_list(input, true, shape.table)?;
-    let mut numbers = [0u8; 2048];
-    let at = crate::within(shape.numbers, &numbers);
-    let whole = fill(input, table.whole, &mut numbers, shape.numbers)?;
-    let list = byte_list(input, whole, shape.list)?;
-    let whole = fill(input, list.whole, &mut numbers[at..], shape.after)?;
-    let room = word_list(input, whole, shape.room)?;
+    let table = word_list(input, shape.table)?;
+    let mut numbers = [0u8; ROOM];
+    fill(input, &mut numbers, shape.numbers)?;
+    let list = byte_list(input, shape.list)?;
+    fill(input, &mut numbers[shape.numbers..], shape.after)?;
+    let room = word_list(input, shape.room)?;
     Ok(Case {
         table,
-        numbers,
+        numbers: Numbers { bytes: numbers },
         list,
         room,
-        whole: room.whole,
     })
 }

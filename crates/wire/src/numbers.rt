@@ -1,81 +1,61 @@
-// Numbers among bytes, high byte first.
-ghost use Rattle.std.specs.Prelude.{◌+◌, ◌≤◌, ◌<◌};
+// The numbers of a case, high byte first.
+ghost use Rattle.std.specs.Prelude.{◌≡◌, ◌≤◌};
+ghost use Rattle.wire.specs.Numbers.{part_at, byte_at, word_at, long_at, set_at};
 
 use sets::Set;
 
-// The numbers of a case, or the words of a list.
-pub type Block = [u8; 2048];
+// How many bytes a case's numbers have room for.
+pub(crate) const ROOM: usize = 2048;
 
-fn wide(x: u8) -> u32
-    ensures { result < 256 }
-{
-    x as u32
+// Each number is read at a place. Where the bytes end before it, it is the last that there is room for.
+#[derive(Clone, Copy)]
+pub struct Numbers {
+    pub bytes: [u8; ROOM],
 }
 
-// The byte at a place; where the block ends before it, its last.
-pub fn byte(bytes: &Block, at: usize) -> u32 {
-    wide(bytes[crate::at_most(at, 2047)])
-}
-
-// A number of two bytes.
-pub(crate) fn pair(high: u8, low: u8) -> u32
-    ensures { result < 65536 }
-{
-    wide(high) * 256 + wide(low)
-}
-
-fn half(bytes: &Block, at: usize) -> u32
-    requires { at + 2 ≤ 2048 }
-    ensures { result < 65536 }
-{
-    pair(bytes[at], bytes[at + 1])
-}
-
-fn word_in(bytes: &Block, at: usize) -> u32
-    requires { at + 4 ≤ 2048 }
-{
-    half(bytes, at) * 0x1_0000 + half(bytes, at + 2)
-}
-
-// The word at a place; where the block ends before it, the last that there is, and so for the numbers below.
-pub fn word(bytes: &Block, at: usize) -> u32 {
-    word_in(bytes, crate::at_most(at, 2044))
-}
-
-fn long_in(bytes: &Block, at: usize) -> u64
-    requires { at + 8 ≤ 2048 }
-{
-    word_in(bytes, at) as u64 * 0x1_0000_0000 + word_in(bytes, at + 4) as u64
-}
-
-pub fn long(bytes: &Block, at: usize) -> u64 {
-    long_in(bytes, crate::at_most(at, 2040))
-}
-
-fn set_in(bytes: &Block, at: usize) -> Set
-    requires { at + 16 ≤ 2048 }
-{
-    Set {
-        low: long_in(bytes, at),
-        high: long_in(bytes, at + 8),
+impl Numbers {
+    // The bytes that each of the others reads, which is a line over them.
+    fn part<const N: usize>(&self, at: usize) -> [u8; N]
+        requires { N ≤ 2048 }
+        ensures { result ≡ part_at N self.now.bytes at }
+    {
+        let at = at.min(ROOM - N);
+        let mut part = [0u8; N];
+        part.copy_from_slice(&self.bytes[at..at + N]);
+        part
     }
-}
 
-pub fn set(bytes: &Block, at: usize) -> Set {
-    set_in(bytes, crate::at_most(at, 2032))
-}
-
-fn order_in(bytes: &Block, at: usize) -> [u8; 96]
-    requires { at + 96 ≤ 2048 }
-{
-    let mut order = [0u8; 96];
-    for i in 0..96 {
-        order[i] = bytes[at + i];
+    pub fn byte(&self, at: usize) -> u8
+        ensures { result ≡ byte_at self.now.bytes at }
+    {
+        self.bytes[at.min(ROOM - 1)]
     }
-    order
-}
 
-// The 96 bytes from a place on.
-pub fn order(bytes: &Block, at: usize) -> [u8; 96] {
-    order_in(bytes, crate::at_most(at, 1952))
+    pub fn word(&self, at: usize) -> u32
+        ensures { result ≡ word_at self.now.bytes at }
+    {
+        u32::from_be_bytes(self.part(at))
+    }
+
+    pub fn long(&self, at: usize) -> u64
+        ensures { result ≡ long_at self.now.bytes at }
+    {
+        u64::from_be_bytes(self.part(at))
+    }
+
+    pub fn set(&self, at: usize) -> Set
+        ensures { result ≡ set_at self.now.bytes at }
+    {
+        let at = at.min(ROOM - 16);
+        Set {
+            low: self.long(at),
+            high: self.long(at + 8),
+        }
+    }
+
+    pub fn order(&self, at: usize) -> [u8; 96]
+        ensures { result ≡ part_at 96 self.now.bytes at }
+    {
+        self.part(at)
+    }
 }

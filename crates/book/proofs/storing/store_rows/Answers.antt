@@ -1,20 +1,17 @@
--- The words of the block are stored one after the other behind the block's number, then zeros, then the check.
--- So the block is the definition's, byte for byte. Assumes nothing.
-use Rattle.std.specs.Prelude.{ℕ, ◌+◌, ◌*◌}
-use Rattle.std.proofs.Common.{arith, add-one}
-use Rattle.book.specs.BlockLaws.{block_made, rows_made}
-use Rattle.book.specs.Heads.{said}
-use Rattle.book.specs.Layout.{edition_one}
+-- The words of row block k are those from word 126 k on, 126 at most.
+-- The block is stored over what was in its place. Assumes nothing.
+use Rattle.std.specs.Prelude.{ℕ, ◌+◌, ◌-◌, ◌*◌, min, ◌≡◌, List, length, take, drop}
+use Rattle.std.proofs.Common.{arith, sym, ap, ◌∙◌, length-drop}
+use Rattle.std.proofs.lemmas.List.{take_min}
+use Rattle.book.specs.Layout.{edition_one, sealed}
+use Rattle.book.specs.PartsLaws.{stored_between}
 use Rattle.book.proofs.storing.store_rows.Goals as goal
 
 pub returns : goal.returns
-returns c = λ head.
-    let a = c.args in
-    let x = said head a.words.now in
-    let fit = c.words_in-count.ensures in
-    let from : ℕ = 512 * (a.k + 1) in
-    let body =
-    rows_made x a.k (from + 2) c.words_in-count.result fit.0 (λ j p q. omega (arith, c.requires.1, fit.2 j p q)) _ _ _
-    c.store_words.ensures c.store_zeros.ensures
-    in
-    block_made edition_one x (a.k + 1) from _ _ _ _ c.requires.3 c.store_u16.ensures (rw (← add-one a.k) at body) c.store_check.ensures
+returns c = λ x e.
+    let k = c.args.k in
+    let rest = drop (126 * k) c.args.words.now in
+    let size : c.min-end.result - 126 * k ≡ min 126 (length rest) = omega (arith, length-drop (126 * k) c.args.words.now) in
+    let part = ap (λ (n : ℕ). take n rest) size ∙ take_min 126 rest ∙ ap (λ (w : List ℕ). take 126 (drop (126 * k) w)) (sym e) in
+    stored_between (512 * (k + 1)) 512 (sealed edition_one x (k + 1)) c.args.out.now _ _ _ c.requires.2
+    c.split_at_mut-rest.ensures.front c.split_at_mut-rest.ensures.back (c.store_row_block.ensures x part)

@@ -1,9 +1,10 @@
 -- The checks are made in the order of the definition's list, and the first that fails gives the answer.
 -- Each return is the law of the check that led there. Assumes nothing.
 use Rattle.std.specs.Prelude.{ℕ, ◌/◌, ◌%◌, ◌≡◌, ◌≤◌, true, eqb, leb, List, length}
-use Rattle.std.proofs.Common.{sym, inl, inr, eq-eqb, ne_eqb, le-leb}
+use Rattle.std.proofs.Common.{sym, ◌∙◌, inl, inr, eq-eqb, ne_eqb, le-leb}
 use Rattle.std.proofs.lemmas.Bool.{lt-leb}
 use Rattle.sets.specs.BoolLaws.{and_in, and_fails}
+use Rattle.sets.specs.SumLaws.{some_below_some, some_below_none}
 use Rattle.rows.proofs.TableLaws.{well_sized, some_cores, fault_length, fault_cores, fault_row, fault_none}
 use Rattle.rows.proofs.table.check_table.Goals as goal
 use Rattle.rows.proofs.table.check_table.Goals.{then-words-ne0-via-then-words-ne0, then-words-ne0-via-else-words-ne0+then-n-gt96, then-m-lt1-via-then-m-lt1, then-m-lt1-via-else-m-lt1+then-m-gt32}
@@ -38,14 +39,15 @@ returns-then-m-lt1 c =
       | then-m-lt1-via-else-m-lt1+then-m-gt32 w ↦ inr (lt-leb _ _ w.if-m-gt32.true)
     ])))
 
-pub returns-then-row-n : goal.returns-then-row-n
-returns-then-row-n c =
-    let lowest = c.first_fault-row.ensures in
-    rw lowest
-    (sym (fault_row _ _ (sized _ c.if-words-ne0.false c.if-n-gt96.false) (cored _ c.if-m-lt1.false c.if-m-gt32.false) (rw lowest at c.if-row-n.true)))
+pub returns-in-Some : goal.returns-in-Some
+returns-in-Some c =
+    let words = c.args.words.now in
+    let lowest = some_below_some _ _ (sym c.first_fault.ensures ∙ c.in-Some.is) in
+    rw lowest.0
+    (sym (fault_row _ _ (sized _ c.if-words-ne0.false c.if-n-gt96.false) (cored _ c.if-m-lt1.false c.if-m-gt32.false) lowest.1))
 
-pub returns : goal.returns
-returns c =
+pub returns-in-None : goal.returns-in-None
+returns-in-None c =
     sym
     (fault_none _ _ (sized _ c.if-words-ne0.false c.if-n-gt96.false) (cored _ c.if-m-lt1.false c.if-m-gt32.false)
-    (rw c.first_fault-row.ensures at c.if-row-n.false))
+    (some_below_none _ _ (sym c.first_fault.ensures ∙ c.in-None.is)))

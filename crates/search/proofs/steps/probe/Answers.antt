@@ -4,5 +4,10 @@ use Rattle.std.proofs.Common.{arith}
 use Rattle.rows.proofs.TableLaws.{row_count_most}
 use Rattle.search.proofs.steps.probe.Goals as goal
 
-pub place-next-requires : goal.place-next-requires
-place-next-requires c = (omega (arith, row_count_most c.args.words.now), omega arith, omega arith)
+pub place-requires : goal.place-requires
+place-requires c =
+    rw (c.row_count.ensures, c.passes.ensures.same.0)
+    (row_count_most c.args.tally.now.board.words.now, c.requires.1, c.requires.0.0)
+
+pub overflow_add-state : goal.overflow_add-state
+overflow_add-state c = omega (arith, row_count_most c.args.tally.now.board.words.now)

@@ -1,49 +1,55 @@
-use Rattle.std.proofs.Common.{◌≤◌, arith, rules}
+use Rattle.std.proofs.Common.{sym, ◌∙◌, refl, arith, rules}
 use Rattle.rows.proofs.TableLaws.{row_count_most}
-use Rattle.search.specs.TallyLaws.{tally_fresh}
 use Rattle.search.specs.StepLaws.{stands_start, stands_placed, stands_left, stands_probe, run_unfinished, run_blocked, run_done}
 use Rattle.search.proofs.steps.run.Goals as goal
+use Rattle.search.proofs.steps.run.Goals.{else-loop-test, then-loop-test+in_default}
 
-pub loop-k-init : goal.loop-k-init
-loop-k-init c =
-    let n = c.requires.n_value.0 in
+pub loop-init : goal.loop-init
+loop-init c =
     record {
-      stands = stands_start (row_count_most _) (search rules) (rw n at c.requires.n_value.1) (rw n at c.requires.left_value)
-          (rw n at c.next_row-k.ensures);
-      tallied = tally_fresh _ _ _ (omega arith);
+      board = c.new-tally.ensures.0;
+      tests = refl;
+      stands = rw c.new-tally.ensures.1 (stands_start (row_count_most _) (search rules) c.requires);
     }
 
-pub probe-stand-requires-clause-n_value : goal.probe-stand-requires-clause-n_value
-probe-stand-requires-clause-n_value c =
-    let n = c.requires.n_value.0 in
-    (n, c.loop-k-test.true, rw n (stands_placed c.loop-k.invariant.stands (rw n at c.loop-k-test.true)))
+pub probe-requires : goal.probe-requires
+probe-requires c =
+    let inv = c.loop.invariant in
+    let most = row_count_most c.args.board.words.now in
+    let found = sym (rw inv.board at c.next_row.ensures) ∙ c.in-Some.is in
+    rw inv.board (stands_left inv.stands most found, stands_placed inv.stands most found)
 
-pub probe-stand-requires-clause-k_value : goal.probe-stand-requires-clause-k_value
-probe-stand-requires-clause-k_value c =
-    let inv = c.loop-k.invariant in
-    let some = rw c.requires.n_value.0 at c.loop-k-test.true in
-    (stands_left inv.stands (row_count_most _) some, inv.tallied)
-
-pub loop-k-preserved : goal.loop-k-preserved
-loop-k-preserved c =
-    let n = c.requires.n_value.0 in
+pub loop-preserved : goal.loop-preserved
+loop-preserved c =
+    let inv = c.loop.invariant in
+    let most = row_count_most c.args.board.words.now in
+    let found = sym (rw inv.board at c.next_row.ensures) ∙ c.in-Some.is in
     record {
-      stands = stands_probe c.loop-k.invariant.stands (row_count_most _) (rw n at c.loop-k-test.true) (omega arith)
-          c.probe-stand.ensures.value (rw n at c.next_row-k-in-loop-k.ensures);
-      tallied = c.probe-stand.ensures.tallied;
+      board = c.probe.ensures.same ∙ inv.board;
+      tests = omega arith;
+      stands = stands_probe inv.stands most found (omega arith) (rw inv.board at c.probe.ensures.value);
     }
 
-pub returns-then-k-n : goal.returns-then-k-n
-returns-then-k-n c =
-    let spent : c.args.quota ≤ c.loop-k.tests = omega arith in
-    run_unfinished c.loop-k.invariant.stands (rw c.requires.n_value.0 at c.if-k-n.true) spent
+pub returns-in-Some-next_row : goal.returns-in-Some-next_row
+returns-in-Some-next_row c =
+    let inv = c.loop.invariant in
+    let most = row_count_most c.args.board.words.now in
+    let found = sym (rw inv.board at c.next_row-2.ensures) ∙ c.in-Some-next_row.is in
+    run_unfinished inv.stands most found
+    (elim c.loop-test.branch [
+      | else-loop-test w ↦ omega arith
+      | then-loop-test+in_default w ↦
+          absurd (w.in_default.not-Some _ (w.next_row.ensures ∙ sym c.next_row-2.ensures ∙ c.in-Some-next_row.is))
+    ])
 
-pub returns-then-end-n : goal.returns-then-end-n
-returns-then-end-n c =
-    let n = c.requires.n_value.0 in
-    run_blocked c.loop-k.invariant.stands (rw n at c.if-k-n.false) (rw n at c.if-end-n.true)
+pub returns-in-None : goal.returns-in-None
+returns-in-None c =
+    let inv = c.loop.invariant in
+    let none = sym (rw inv.board at c.next_row-2.ensures) ∙ c.in-None.is in
+    run_blocked inv.stands (row_count_most c.args.board.words.now) none (rw c.row_count.ensures at c.if-state-row_count.true)
 
-pub returns : goal.returns
-returns c =
-    let n = c.requires.n_value.0 in
-    run_done c.loop-k.invariant.stands (rw n at c.if-k-n.false) (rw n at c.if-end-n.false)
+pub returns-in-None-2 : goal.returns-in-None-2
+returns-in-None-2 c =
+    let inv = c.loop.invariant in
+    let none = sym (rw inv.board at c.next_row-2.ensures) ∙ c.in-None-2.is in
+    run_done inv.stands (row_count_most c.args.board.words.now) none (rw c.row_count.ensures at c.if-state-row_count.false)
