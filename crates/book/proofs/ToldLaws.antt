@@ -100,3 +100,8 @@ pub write_one : (words : List ℕ) (m : ℕ) (v : Verdict) (room : ℕ) (x y : R
 write_one words m v room x y p q =
     let none = names_none words m v room in
     told_write_one (write_of words m v room).number none.0 none.1 x y (ap (λ (w : BookWritten). w.number) p) (p ∙ sym q)
+
+-- what a book that is read is in the numbers of document 01: 0 with its cores, its rows and its verdict
+pub book_is_0 : (m n : ℕ) (v : Verdict)
+    → told_read (Ok (record { m = m; n = n; verdict = v })) ≡ record { number = 0; row = 0; block = 0; m = m; n = n; verdict = v }
+book_is_0 m n v = refl

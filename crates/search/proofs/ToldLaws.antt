@@ -5,6 +5,7 @@ use Rattle.std.specs.Prelude.{ℕ, ◌≡◌, refl, Bool, true, false, cond, Lis
 use Rattle.std.proofs.Common.{sym, ap, ap₂, subst, ◌∙◌, ⊎_elim, arith, eqb-true, leb-true, leb-false}
 use Rattle.std.proofs.lemmas.Bool.{eqb-false}
 use Rattle.sets.specs.BoolLaws.{either}
+use Rattle.sets.specs.Sets.{none}
 use Rattle.sets.specs.declared.Set.{Set}
 use Rattle.rows.specs.Numbers.{done, blocked, unfinished, block_number, block_check, policy}
 use Rattle.rows.specs.Table.{row_count, table_fault}
@@ -148,3 +149,24 @@ module _ (words : List ℕ) (terms : Terms) where
   pub step_determined : (s : State) (quota : ℕ) (x y : Step) → told_step x ≡ stepped_of words terms s quota → told_step y ≡ stepped_of words terms s quota
       → x ≡ y
   step_determined s quota x y p q = step_one x y (subst (λ (t : Stepped). NoBlock t.number) (sym p) (stepped_no_block s quota)) (p ∙ sym q)
+
+-- ---- what each answer is in the numbers of document 01, by themselves, so that no case is told for another
+
+pub order_is_0 : (tests : ℕ) → told_search (Ok (Order tests)) ≡ record { number = 0; row = 0; group = none; tests = tests }
+order_is_0 tests = refl
+
+pub blocked_is_4 : (group : Set) (tests : ℕ) → told_search (Ok (Blocked group tests)) ≡ record { number = 4; row = 0; group = group; tests = tests }
+blocked_is_4 group tests = refl
+
+pub step_order_is_0 : (tests : ℕ) (s : State)
+    → told_step (record { answer = Ok Ordered; tests = tests; state = s }) ≡ record { number = 0; row = 0; group = none; tests = tests; state = s }
+step_order_is_0 tests s = refl
+
+pub step_blocked_is_4 : (group : Set) (tests : ℕ) (s : State)
+    → told_step (record { answer = Ok (Stranded group); tests = tests; state = s })
+    ≡ record { number = 4; row = 0; group = group; tests = tests; state = s }
+step_blocked_is_4 group tests s = refl
+
+pub step_unfinished_is_15 : (tests : ℕ) (s : State)
+    → told_step (record { answer = Ok Unfinished; tests = tests; state = s }) ≡ record { number = 15; row = 0; group = none; tests = tests; state = s }
+step_unfinished_is_15 tests s = refl
