@@ -16,12 +16,11 @@ use Rattle.sets.specs.SumLaws.{on_le, on_true, on_false, count_zero_iff}
 use Rattle.sets.specs.Sets.{word, has, set_of, none, within}
 use Rattle.sets.specs.SetLaws.{within_iff, set_of_fits}
 use Rattle.rows.specs.Table.{row_count, table_fault}
-use Rattle.rows.specs.Refusals.{refusal_number}
 use Rattle.rows.proofs.TableLaws.{row_count_most}
-use Rattle.rows.proofs.RefusalLaws.{refused_not_done, told_back}
+use Rattle.rows.proofs.RefusalLaws.{refused_not_done}
 use Rattle.rows.specs.declared.refusal.Refusal.{Refusal}
-use Rattle.rows.specs.declared.refusal.Refusal.TheVariants.{Policy}
 use Rattle.sets.specs.declared.Set.{Set}
+use Rattle.search.proofs.ToldLaws.{refused_not_blocked}
 use Rattle.search.specs.Search.{rows_below, free}
 use Rattle.search.specs.Demand.{Order}
 use Rattle.search.specs.OrderLaws.{times_append}
@@ -90,9 +89,6 @@ unfolding formed
 formed_blocked n order g h s w = and_in (order_fits 0 order) (group_fits 2 g n) h (sym (group_some 2 n g s) ∙ w)
 
 -- ---- the verdict
-
-refused_not_blocked : (r : Refusal) → refusal_number r ≡ blocked → ⊥
-refused_not_blocked r e = let q : Policy ≡ r = rw e at (told_back r) in omega (arith, e, ap refusal_number q)
 
 blanks : List ℕ
 blanks = replicate 96 255

@@ -8,15 +8,14 @@ use Rattle.rows.specs.Judge.{Check, judge}
 use Rattle.rows.specs.Numbers.{done, blocked}
 use Rattle.sets.specs.Sets.{has, mask, set_of, none, with_row, without_row, without}
 use Rattle.sets.specs.SetLaws.{has_set_of, has_without, set_ext}
-use Rattle.rows.specs.Refusals.{refusal_number}
 use Rattle.rows.specs.Table.{table, row_count, table_fault}
 use Rattle.rows.proofs.TableLaws.{row_count_most}
-use Rattle.rows.proofs.RefusalLaws.{refused_not_done, told_back}
+use Rattle.rows.proofs.RefusalLaws.{refused_not_done}
 use Rattle.rows.specs.declared.refusal.Refusal.{Refusal}
-use Rattle.rows.specs.declared.refusal.Refusal.TheVariants.{Policy}
 use Rattle.sets.specs.declared.Set.{Set}
 use Rattle.rows.specs.JudgeLaws.{Passed, judge_works}
 use Rattle.test.proofs.TestLaws.{used_ext}
+use Rattle.search.proofs.ToldLaws.{refused_not_blocked}
 use Rattle.search.specs.Search.{elem}
 use Rattle.search.specs.Demand.{among}
 use Rattle.search.specs.Answers.{placed_of, found_of}
@@ -184,9 +183,6 @@ listing_read b words r h = rw (h.table, h.cores) (go (listing_cases b))
     go (read d t) = t
 
 -- ---- the search of a table that passed its checks
-
-refused_not_blocked : (r : Refusal) → refusal_number r ≡ blocked → ⊥
-refused_not_blocked r e = let q : Policy ≡ r = rw e at (told_back r) in omega (arith, e, ap refusal_number q)
 
 module _ (words : List ℕ) (m : ℕ) (fair : (table_fault words m).number ≡ done) where
   -- it answers 0 or 4

@@ -50,7 +50,7 @@ not_refused k r other t e =
     let is : r ≡ Policy = sym (told_back r) ∙ ap (λ (n : ℕ). refusal_told n (refusal_row r) (refusal_block r)) e ∙ t in
     other (sym e ∙ ap refusal_number is)
 
-refused_not_blocked : (r : Refusal) → refusal_number r ≡ blocked → ⊥
+pub refused_not_blocked : (r : Refusal) → refusal_number r ≡ blocked → ⊥
 refused_not_blocked r = not_refused blocked r (λ e. omega arith) refl
 
 refused_not_unfinished : (r : Refusal) → refusal_number r ≡ unfinished → ⊥

@@ -2,7 +2,6 @@
 -- need be made now, and with it the test is the definition's too. Assumes nothing.
 use Rattle.std.proofs.Common.{◌≡◌, refl, sym, ◌∙◌}
 use Rattle.sets.specs.SumLaws.{some_below_some}
-use Rattle.rows.specs.Board.{seen}
 use Rattle.test.proofs.TestLaws.{passes_with_lem}
 use Rattle.search.specs.Tally.{left_sum}
 use Rattle.search.proofs.tally.Tally.passes.Goals as goal
