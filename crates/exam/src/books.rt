@@ -1,9 +1,6 @@
 // Answers to cases over books.
-use crate::{head, refused};
-use book::{Book, Verdict};
-use rows::Refusal;
-use rows::numbers::DONE;
-use sets::Set;
+use crate::told;
+use book::Verdict;
 use std::io;
 use std::io::Write;
 use wire::answer::Part;
@@ -13,8 +10,15 @@ use wire::numbers::Numbers;
 // Kind 7. Numbers: m, the verdict. List: the output.
 pub(crate) fn write<W: Write>(out: &mut W, case: &mut Case) -> io::Result<()> {
     let m = case.numbers.word(0);
-    let answer = book::write(&case.table, m, verdict(&case.numbers), &mut case.list);
-    head(answer).put(out)?;
+    let n = case.list.n;
+    let list = &mut case.list.bytes[..];
+    let answer = book::write(
+        case.table.as_slice(),
+        m,
+        verdict(&case.numbers),
+        &mut list[..n],
+    );
+    told::stored(answer).put(out)?;
     case.list.put(out)
 }
 
@@ -28,25 +32,14 @@ fn verdict(numbers: &Numbers) -> Verdict {
 
 // Kind 8. List: the book. Room: the words read.
 pub(crate) fn read<W: Write>(out: &mut W, case: &mut Case) -> io::Result<()> {
-    match book::read(&case.list, &mut case.room) {
-        Ok(book) => put_book(out, book)?,
-        Err(why) => put_refusal(out, why)?,
-    }
-    case.room.put(out)
-}
-
-fn put_book<W: Write>(out: &mut W, book: Book) -> io::Result<()> {
+    let n = case.room.n;
+    let room = &mut case.room.words[..];
+    let answer = book::read(case.list.as_slice(), &mut room[..n]);
+    let (head, book) = told::book_read(answer);
     let said = book.verdict;
-    ((DONE, 0usize), 0usize).put(out)?;
+    head.put(out)?;
     (book.m, book.n).put(out)?;
     (said.kind, said.group).put(out)?;
-    said.order.put(out)
-}
-
-// A refused book has no verdict, and no order.
-fn put_refusal<W: Write>(out: &mut W, why: Refusal) -> io::Result<()> {
-    (refused(why), why.block()).put(out)?;
-    (0u32, 0usize).put(out)?;
-    (0u32, Set::NONE).put(out)?;
-    [255u8; 96].put(out)
+    said.order.put(out)?;
+    case.room.put(out)
 }

@@ -3,8 +3,6 @@
 // answer.
 #![tactic(auto)]
 
-use rows::Refusal;
-use rows::numbers::DONE;
 use std::io;
 use std::io::{Read, Write};
 use wire::case;
@@ -12,6 +10,7 @@ use wire::case::{Case, Shape, Stop};
 
 mod books;
 mod table;
+mod told;
 
 // The most bytes of a list.
 const LIST: usize = 4096;
@@ -86,20 +85,6 @@ fn over(numbers: usize, list: usize, after: usize) -> Shape {
         list,
         after,
         room: false,
-    }
-}
-
-// How an answer begins: its number, and the row that goes with it.
-type Head = (u32, usize);
-
-fn refused(why: Refusal) -> Head {
-    (why.number(), why.row())
-}
-
-fn head(answer: Result<(), Refusal>) -> Head {
-    match answer {
-        Ok(()) => (DONE, 0),
-        Err(why) => refused(why),
     }
 }
 

@@ -1,9 +1,6 @@
 // Answers to cases over a table.
-use crate::{Head, head, refused};
-use rows::Refusal;
-use rows::numbers::{BLOCKED, DONE, MEMBER_PASSES, ORDER_FAILS, UNFINISHED};
-use search::{Found, Outcome, State};
-use sets::Set;
+use crate::told;
+use search::{Found, State};
 use std::io;
 use std::io::Write;
 use wire::answer::Part;
@@ -14,16 +11,16 @@ use wire::numbers::Numbers;
 pub(crate) fn test<W: Write>(out: &mut W, case: &Case) -> io::Result<()> {
     let m = case.numbers.word(0);
     let k = case.numbers.word(4) as usize;
-    match test::test_row(&case.table, m, k, case.numbers.set(8)) {
-        Ok(tested) => ((DONE, 0usize), (tested.passes, tested.used)).put(out),
-        Err(why) => (refused(why), (false, 0u64)).put(out),
-    }
+    let answer = test::test_row(case.table.as_slice(), m, k, case.numbers.set(8));
+    told::tested(answer).put(out)
 }
 
 // Kind 2. Numbers: m. List: the output.
 pub(crate) fn search<W: Write>(out: &mut W, case: &mut Case) -> io::Result<()> {
     let m = case.numbers.word(0);
-    let found = Found::from(search::search(&case.table, m, &mut case.list));
+    let n = case.list.n;
+    let list = &mut case.list.bytes[..];
+    let found = Found::from(search::search(case.table.as_slice(), m, &mut list[..n]));
     ((found.number, found.row), (found.group, found.tests)).put(out)?;
     case.list.put(out)
 }
@@ -32,8 +29,8 @@ pub(crate) fn search<W: Write>(out: &mut W, case: &mut Case) -> io::Result<()> {
 pub(crate) fn step<W: Write>(out: &mut W, case: &Case) -> io::Result<()> {
     let m = case.numbers.word(0);
     let quota = case.numbers.long(116);
-    let stepped = search::step(&case.table, m, state(&case.numbers), quota);
-    (outcome(stepped.answer), stepped.tests).put(out)?;
+    let stepped = search::step(case.table.as_slice(), m, state(&case.numbers), quota);
+    (told::stepped(stepped.answer), stepped.tests).put(out)?;
     let next = stepped.state;
     next.order.put(out)?;
     (next.placed, next.cursor).put(out)
@@ -47,41 +44,27 @@ fn state(numbers: &Numbers) -> State {
     }
 }
 
-// How a step's answer begins, and the blocked group.
-fn outcome(answer: Result<Outcome, Refusal>) -> (Head, Set) {
-    match answer {
-        Ok(Outcome::Order) => ((DONE, 0), Set::NONE),
-        Ok(Outcome::Blocked(group)) => ((BLOCKED, 0), group),
-        Ok(Outcome::Unfinished) => ((UNFINISHED, 0), Set::NONE),
-        Err(why) => (refused(why), Set::NONE),
-    }
-}
-
 // Kind 4. Numbers: m, the policy. List: the output.
 pub(crate) fn policy<W: Write>(out: &mut W, case: &mut Case) -> io::Result<()> {
     let m = case.numbers.word(0);
     let policy = case.numbers.word(4);
-    let answer = policy::propose(&case.table, m, policy, &mut case.list);
-    head(answer).put(out)?;
+    let n = case.list.n;
+    let list = &mut case.list.bytes[..];
+    let answer = policy::propose(case.table.as_slice(), m, policy, &mut list[..n]);
+    told::stored(answer).put(out)?;
     case.list.put(out)
 }
 
 // Kind 5. Numbers: m. List: the order.
 pub(crate) fn check_order<W: Write>(out: &mut W, case: &Case) -> io::Result<()> {
     let m = case.numbers.word(0);
-    match audit::check_order(&case.table, m, &case.list) {
-        Ok(None) => ((DONE, 0usize), (0usize, 0u64)).put(out),
-        Ok(Some(failing)) => ((ORDER_FAILS, 0usize), (failing.level, failing.used)).put(out),
-        Err(why) => (refused(why), (0usize, 0u64)).put(out),
-    }
+    let answer = audit::check_order(case.table.as_slice(), m, case.list.as_slice());
+    told::order_checked(answer).put(out)
 }
 
 // Kind 6. Numbers: m, the group.
 pub(crate) fn check_group<W: Write>(out: &mut W, case: &Case) -> io::Result<()> {
     let m = case.numbers.word(0);
-    match audit::check_group(&case.table, m, case.numbers.set(4)) {
-        Ok(None) => (DONE, 0usize).put(out),
-        Ok(Some(row)) => (MEMBER_PASSES, row).put(out),
-        Err(why) => refused(why).put(out),
-    }
+    let answer = audit::check_group(case.table.as_slice(), m, case.numbers.set(4));
+    told::group_checked(answer).put(out)
 }

@@ -1,7 +1,7 @@
 -- Words, and the four bytes that each is read of.
-use Rattle.std.proofs.Common.{◌≡◌, ℕ, zero, suc, ◌+◌, ◌*◌, ◌/◌, ◌<◌, List, [], ◌∷◌, ◌++◌, length, take, drop, get_or, sym, ap, ◌∙◌, arith, length-take-le, length-drop}
+use Rattle.std.proofs.Common.{◌≡◌, ℕ, zero, suc, ◌+◌, ◌*◌, ◌/◌, ◌<◌, List, [], ◌∷◌, ◌++◌, length, take, drop, get_or, set, sym, ap, ◌∙◌, arith, length-take-le, length-drop}
 use Rattle.std.proofs.lemmas.Grind.{flat_map-append}
-use Rattle.std.proofs.lemmas.List.{drop-drop, get_or-drop}
+use Rattle.std.proofs.lemmas.List.{drop-drop, get_or-drop, take_more_set}
 use Rattle.std.proofs.lemmas.Nat.{be_bytes_4}
 use Rattle.std.proofs.Math.Seq.{take-add}
 use Rattle.std.specs.Int.{w32, to_be_bytes, from_be_bytes}
@@ -35,3 +35,10 @@ words_more words bytes quads i w cut more small so_far read =
     flat_map-append (to_be_bytes w32) words (w ∷ [])
     ∙ ap (λ x. x ++ to_be_bytes w32 w) so_far ∙ ap (λ q. take (4 * i) bytes ++ q) back
     ∙ sym (take-add (4 * i) 4 bytes) ∙ ap (λ m. take m bytes) {x = 4 * i + 4} {y = 4 * (i + 1)} (omega arith)
+
+-- the same of a word that is stored behind those so far
+pub words_stored : (words bytes : List ℕ) (quads : List (List ℕ)) (i w : ℕ) → i < length words → quads ≡ first_chunks 4 (length bytes / 4) bytes → i < length bytes / 4
+    → ((k : ℕ) → get_or bytes k 0 < 256) → words_bytes (take i words) ≡ take (4 * i) bytes → w ≡ from_be_bytes w32 (get_or quads i [])
+    → words_bytes (take (i + 1) (set words i w)) ≡ take (4 * (i + 1)) bytes
+words_stored words bytes quads i w room cut more small so_far read =
+    ap words_bytes (take_more_set words i w room) ∙ words_more (take i words) bytes quads i w cut more small so_far read

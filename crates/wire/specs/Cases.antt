@@ -6,7 +6,9 @@ use Rattle.std.specs.Io.KnownBytes.{Consumes}
 use Rattle.std.specs.IoError.{error_kind}
 use Rattle.std.specs.declared.io.ErrorKind.TheVariants.{UnexpectedEof}
 use Rattle.wire.specs.Answers.{words_bytes}
-use Rattle.arrayvec.specs.ArrayVec.{ArrayVec, array_vec_len}
+use Rattle.wire.specs.Lists.{words_of, bytes_of}
+use Rattle.wire.specs.declared.lists.Words.{Words}
+use Rattle.wire.specs.declared.lists.Bytes.{Bytes}
 use Rattle.wire.specs.declared.case.Shape.{Shape}
 use Rattle.wire.specs.declared.case.Case.{Case}
 use Rattle.wire.specs.declared.case.Stop.{Stop}
@@ -26,15 +28,15 @@ Reads remaining old new r bytes_of =
 abbrev pub count_bytes : ℕ → ℕ → List ℕ
 count_bytes most n = if most == 0 then [] else to_be_bytes w16 n
 
-abbrev pub byte_list_bytes : ℕ → ArrayVec ℕ → List ℕ
-byte_list_bytes most list = count_bytes most (array_vec_len list) ++ list.items
+abbrev pub byte_list_bytes : ℕ → Bytes → List ℕ
+byte_list_bytes most list = count_bytes most list.n ++ bytes_of list
 
 abbrev pub most_words : Bool → ℕ
 most_words true = 512
 most_words false = 0
 
-abbrev pub word_list_bytes : Bool → ArrayVec ℕ → List ℕ
-word_list_bytes is_there list = count_bytes (most_words is_there) (array_vec_len list) ++ words_bytes list.items
+abbrev pub word_list_bytes : Bool → Words → List ℕ
+word_list_bytes is_there list = count_bytes (most_words is_there) list.n ++ words_bytes (words_of list)
 
 abbrev pub case_bytes : Shape → Case → List ℕ
 case_bytes shape case =
@@ -46,8 +48,8 @@ case_bytes shape case =
 
 -- a case has no more than its shape allows, and behind its numbers nothing but 0
 pub record IsOfShape (shape : Shape) (case : Case) : Type 0 where
-  pub table : array_vec_len case.table ≤ most_words shape.table
-  pub list : array_vec_len case.list ≤ shape.list
-  pub room : array_vec_len case.room ≤ most_words shape.room
+  pub table : case.table.n ≤ most_words shape.table
+  pub list : case.list.n ≤ shape.list
+  pub room : case.room.n ≤ most_words shape.room
   pub numbers : shape.numbers + shape.after ≤ 2048
   pub behind : drop (shape.numbers + shape.after) case.numbers.bytes ≡ replicate (2048 - (shape.numbers + shape.after)) 0

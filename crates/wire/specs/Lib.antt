@@ -1,3 +1,4 @@
 pub mod Answers
 pub mod Cases
+pub mod Lists
 pub mod Numbers

@@ -2,8 +2,9 @@
 ghost use Rattle.std.specs.Prelude.{ℕ, List, ◌++◌, OnOk};
 ghost use Rattle.std.specs.Io.KnownBytes.{Appends};
 ghost use Rattle.wire.specs.Answers.{number_bytes, flag_bytes, set_bytes, words_bytes};
+ghost use Rattle.wire.specs.Lists.{words_of, bytes_of};
 
-use crate::{Bytes, Words};
+use crate::lists::{Bytes, Words};
 use sets::Set;
 use std::io;
 use std::io::Write;
@@ -59,16 +60,16 @@ impl Part for [u8; 96] {
 }
 
 impl Part for Bytes {
-    ghost bytes = { λ bytes. bytes.items };
+    ghost bytes = { bytes_of };
 
     fn put<W: Write>(&self, out: &mut W) -> io::Result<()> {
-        out.write_all(self)
+        out.write_all(self.as_slice())
     }
 }
 
 // A word of a list is four bytes.
 impl Part for Words {
-    ghost bytes = { λ words. words_bytes words.items };
+    ghost bytes = { λ words. words_bytes (words_of words) };
 
     fn put<W: Write>(&self, out: &mut W) -> io::Result<()> {
         for word in self.as_slice() {

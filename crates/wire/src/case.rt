@@ -1,11 +1,11 @@
 // The parts of a case. Where one cannot be read, nothing more is read; part of the input may have been read then.
-ghost use Rattle.std.specs.Prelude.{◌≡◌, ℕ, ◌*◌, ◌/◌, ◌<◌, ◌≤◌, [], ◌∷◌, length, take, drop, slice_index, IfOk, OnOk};
-ghost use Rattle.arrayvec.specs.ArrayVec.{array_vec_len};
+ghost use Rattle.std.specs.Prelude.{◌≡◌, ℕ, ◌*◌, ◌<◌, ◌≤◌, [], ◌∷◌, length, take, drop, slice_index, IfOk, OnOk};
 ghost use Rattle.wire.specs.Cases.{Reads, count_bytes, byte_list_bytes, word_list_bytes, most_words, case_bytes, IsOfShape};
 ghost use Rattle.wire.specs.Answers.{words_bytes};
+ghost use Rattle.wire.specs.Lists.{words_of};
 
+use crate::lists::{Bytes, WORDS, Words};
 use crate::numbers::{Numbers, ROOM};
-use crate::{Bytes, WORDS, Words};
 use std::io;
 use std::io::{ErrorKind, Read};
 
@@ -22,7 +22,7 @@ pub struct Shape {
 }
 
 // The numbers after the list stand behind those before it.
-#[derive(Drop)]
+#[derive(Clone, Copy)]
 pub struct Case {
     pub table: Words,
     pub numbers: Numbers,
@@ -73,46 +73,38 @@ fn count<R: Read>(input: &mut R, most: usize) -> Result<usize, Stop>
     Ok(n)
 }
 
-// So many bytes.
-fn bytes<R: Read>(input: &mut R, n: usize) -> Result<Bytes, Stop>
-    ensures read { Reads R.remaining input.old input.new result (λ bytes. bytes.items) }
-    ensures size { IfOk result (λ bytes. array_vec_len bytes ≡ n) }
-{
-    let mut bytes = [0u8; 4200];
-    fill(input, &mut bytes, n)?;
-    Ok(Bytes::try_from(&bytes[..n]).unwrap())
-}
-
 fn byte_list<R: Read>(input: &mut R, most: usize) -> Result<Bytes, Stop>
     ensures read { Reads R.remaining input.old input.new result (byte_list_bytes most) }
-    ensures most { IfOk result (λ list. array_vec_len list ≤ most) }
+    ensures most { IfOk result (λ list. list.n ≤ most) }
 {
     let n = count(input, most)?;
-    bytes(input, n)
+    let mut bytes = [0; 4200];
+    fill(input, &mut bytes, n)?;
+    Ok(Bytes { bytes, n })
 }
 
-// The words whose bytes these are. `collect` would ask for an allocator.
-#[tactic(auto, using(crate::proofs::Quads::words_more))]
-fn words(bytes: &[u8]) -> Words
-    requires { length bytes.now ≤ 2048 }
-    ensures len { array_vec_len result ≡ length bytes.now / 4 }
-    ensures words { words_bytes result.items ≡ take (4 * (length bytes.now / 4)) bytes.now }
+// The first n words, whose bytes these are.
+fn words(bytes: &[u8; 4 * WORDS], n: usize) -> Words
+    requires { n ≤ 512 }
+    ensures len { result.n ≡ n }
+    ensures words { words_bytes (words_of result) ≡ take (4 * n) bytes.now }
 {
-    let mut words = Words::new();
+    let mut words = [0; WORDS];
     let (quads, _) = bytes.as_chunks::<4>();
-    for quad in quads {
-        words.push(u32::from_be_bytes(*quad));
+    for i in 0..n {
+        words[i] = u32::from_be_bytes(quads[i]);
     }
-    words
+    Words { words, n }
 }
 
 fn word_list<R: Read>(input: &mut R, is_there: bool) -> Result<Words, Stop>
     ensures read { Reads R.remaining input.old input.new result (word_list_bytes is_there) }
-    ensures most { IfOk result (λ list. array_vec_len list ≤ most_words is_there) }
+    ensures most { IfOk result (λ list. list.n ≤ most_words is_there) }
 {
     let n = count(input, if is_there { WORDS } else { 0 })?;
-    let bytes = bytes(input, 4 * n)?;
-    Ok(words(&bytes))
+    let mut bytes = [0; 4 * WORDS];
+    fill(input, &mut bytes, 4 * n)?;
+    Ok(words(&bytes, n))
 }
 
 // The first byte of a case, its kind.
