@@ -1,11 +1,13 @@
 -- Laws of a form that the code took before: a pass over the rows left by `next`, where it now is a walk by `rows`.
--- They hold still, so that whoever cited them finds them. Assumes nothing.
+-- They hold still, so that whoever cited them finds them; the last laws tie them to the present form.
+-- Assumes nothing.
 use Rattle.std.specs.Prelude.{ℕ, suc, ◌+◌, ◌-◌, ◌≤◌, ◌<◌, ◌≡◌, true, false, List, length, get_or, set}
-use Rattle.std.proofs.Common.{sym, ◌∙◌, arith, ne_of_lt, length-set, get_or-set_same, get_or-set_other}
+use Rattle.std.proofs.Common.{sym, ◌∙◌, ⊎_elim, arith, ne_of_lt, length-set, get_or-set_same, get_or-set_other}
 use Rattle.std.proofs.lemmas.Bool.{eqb-false}
 use Rattle.sets.specs.BoolLaws.{not_both}
-use Rattle.sets.specs.NumberLaws.{below_next}
+use Rattle.sets.specs.NumberLaws.{le_or_lt, below_next}
 use Rattle.sets.specs.PassLaws.{Pass, next, next_from, pass_start, pass_next, pass_here, pass_end}
+use Rattle.sets.specs.SumLaws.{first_is}
 use Rattle.sets.specs.Sets.{has, without_row}
 use Rattle.sets.specs.SetLaws.{has_without, without_in}
 use Rattle.rows.specs.Table.{table, row_count}
@@ -13,7 +15,7 @@ use Rattle.rows.proofs.TableLaws.{row_count_most, row_count_bits}
 use Rattle.sets.specs.declared.Set.{Set}
 use Rattle.test.specs.Test.{plain_on}
 use Rattle.search.specs.Tally.{unknown, left_sum, Known, Tallied}
-use Rattle.search.specs.TallyLaws.{sum_off}
+use Rattle.search.specs.TallyLaws.{sum_off, Taking as PresentTaking}
 
 module _ (words : List ℕ) where
   -- the rows before row p have their sums
@@ -78,3 +80,33 @@ module _ (words : List ℕ) where
 
   pub taking_end : {rest : Set} {k : ℕ} {sums : List ℕ} {i : ℕ} → Taking rest k sums i → row_count words ≤ i → Tallied words rest sums
   taking_end w h = record { size = w.size; known = pass_end w.pass h }
+
+-- ---- the present form, told in this one
+
+module _ {words : List ℕ} {rest : Set} {k : ℕ} {sums : List ℕ} {p : ℕ} where
+  -- where a walk has come to row p, a pass stands at the first row of `rest` from p on, which is p where p is in it
+  pub taking_told : PresentTaking words rest k sums p → Taking words rest k sums (next (has rest) p)
+  taking_told w =
+      let f = first_is (has rest) (128 - p) p in
+      record {
+        size = w.size;
+        pass =
+            record {
+              member = λ l. f.found (omega (arith, f.from, row_count_bits words));
+              passed = λ j l.
+                  ⊎_elim (λ (q : p ≤ j). λ h. not_both h (f.before j q (omega arith))) (λ (q : j < p). w.before j q) (le_or_lt p j);
+            };
+        ahead = λ j l q. w.ahead j l (omega (arith, f.from));
+      }
+
+  -- and back, at each row that a walk comes to
+  pub taking_back : p ≤ row_count words → Taking words rest k sums (next (has rest) p) → PresentTaking words rest k sums p
+  taking_back few w =
+      let f = first_is (has rest) (128 - p) p in
+      record {
+        size = w.size;
+        before = λ j l. w.pass.passed j (omega (arith, f.from));
+        ahead = λ j l q h.
+            ⊎_elim (λ (o : next (has rest) p ≤ j). w.ahead j l o h) (λ (o : j < next (has rest) p). not_both h (f.before j q o))
+            (le_or_lt (next (has rest) p) j);
+      }
